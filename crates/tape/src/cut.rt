@@ -1,0 +1,39 @@
+//! A tape that stops at a limit.
+
+ghost use mathlib.Core.Path.{_≡_};
+ghost use Prim.Native.Nat.{min, _<_, _≤_};
+ghost use Rattle.refusal.specs.Makes.{MadeIf};
+ghost use Rattle.refusal.specs.declared.Refusal.the-variants.{SettingOutOfRange};
+ghost use Rattle.tape.specs.Limits.{limit};
+use crate::distance::Tape;
+use refusal::Refusal;
+
+/// A tape over the tape `inner` that gives no distance above `cap`, which is 1 to 1,000,000.
+#[derive(Drop)]
+pub struct Cut<T> {
+    inner: T,
+    cap: u32,
+    ghost positive: { 0 < cap },
+    ghost bounded: { cap ≤ limit },
+}
+
+impl<T: Drop> Cut<T> {
+    /// `inner` cut off at `cap`, unless `cap` is outside 1 to 1,000,000.
+    pub fn new(inner: T, cap: u32) -> Result<Cut<T>, Refusal>
+        ensures { λ r. ⌜ MadeIf ((0 < cap) × (cap ≤ limit)) (λ t. (t .inner ≡ inner) × (t .cap ≡ cap)) SettingOutOfRange r ⌝ }
+    {
+        if cap < 1 || cap > 1_000_000 {
+            return Err(Refusal::SettingOutOfRange);
+        }
+        Ok(Cut { inner, cap })
+    }
+}
+
+/// The smaller of the inner distance and the cap.
+pub impl<P, T: Tape<P>> Tape<P> for Cut<T> as CutTape {
+    ghost dist = { λ t a b. min (T·Tape .dist (t .inner) a b) (t .cap) };
+
+    fn measure(&self, a: &P, b: &P) -> u32 {
+        self.inner.measure(a, b).min(self.cap)
+    }
+}
