@@ -6,6 +6,10 @@ ghost use mathlib.Core.Path.{_≡_};
 ghost use Rattle.refusal.specs.Codes.{code, depth};
 use std::fmt;
 
+pub mod range;
+
+pub use range::one_to_million;
+
 /// Where a table breaks a law: at entry (`row`, `column`), and, where the entry exceeds the way round
 /// through a third grade, that grade.
 #[derive(Clone, Copy, PartialEq, Eq, Debug)]

@@ -2,11 +2,12 @@
 
 ghost use mathlib.Core.Path.{_≡_};
 ghost use Prim.Native.Nat.{min, _<_, _≤_};
-ghost use Rattle.refusal.specs.Makes.{MadeIf};
+ghost use Rattle.refusal.specs.Makes.{MadeIf, OneToMillion};
 ghost use Rattle.refusal.specs.declared.Refusal.the-variants.{SettingOutOfRange};
 ghost use Rattle.tape.specs.Limits.{limit};
 use crate::distance::Tape;
 use refusal::Refusal;
+use refusal::one_to_million;
 
 /// A tape over the tape `inner` that gives no distance above `cap`, which is 1 to 1,000,000.
 #[derive(Drop)]
@@ -20,11 +21,9 @@ pub struct Cut<T> {
 impl<T: Drop> Cut<T> {
     /// `inner` cut off at `cap`, unless `cap` is outside 1 to 1,000,000.
     pub fn new(inner: T, cap: u32) -> Result<Cut<T>, Refusal>
-        ensures { λ r. ⌜ MadeIf ((0 < cap) × (cap ≤ limit)) (λ t. (t .inner ≡ inner) × (t .cap ≡ cap)) SettingOutOfRange r ⌝ }
+        ensures { λ r. ⌜ MadeIf (OneToMillion cap) (λ t. (t .inner ≡ inner) × (t .cap ≡ cap)) SettingOutOfRange r ⌝ }
     {
-        if cap < 1 || cap > 1_000_000 {
-            return Err(Refusal::SettingOutOfRange);
-        }
+        let cap = one_to_million(cap)?;
         Ok(Cut { inner, cap })
     }
 }
