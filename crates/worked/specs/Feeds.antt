@@ -1,0 +1,57 @@
+-- Books of hull panels under the hull tape and the term of the last three pieces, posted to on day 1.
+use mathlib.Core.Path.{_≡_}
+use mathlib.Core.List.{List, [], _∷_, _++_, map}
+use Prim.Native.Nat.{ℕ, min}
+use lib.IntN.{pos}
+use lib.ListN.{replicate}
+use Rattle.std.specs.declared.result.Result.{Result}
+use Rattle.refusal.specs.declared.Refusal.{Refusal}
+use Rattle.rules.specs.Calls.{whyNotRadius, whyNotPost, posted, PickRule}
+use Rattle.rules.specs.Steps.{Distance, bare}
+use Rattle.rules.specs.Views.{Settings, Setup, View}
+use Rattle.rules.specs.Words.{leaves}
+use Rattle.rules.specs.declared.picked.Picked.{Picked}
+use Rattle.tape.specs.Hull.{widest}
+use Rattle.tape.specs.Limits.{limit}
+use Rattle.tape.specs.declared.hull.Panel.{Panel}
+use Rattle.term.specs.Formulas.{Rule, byNumber}
+
+-- the distance of the hull tape
+abbrev pub hull : Distance Panel
+hull a b = min (widest 8 (a .offsets) (b .offsets)) limit
+
+-- a panel with eight offsets of n
+abbrev pub panel : ℕ → Panel
+panel n = record { offsets = replicate 8 (pos n) }
+
+-- the last three pieces count
+abbrev pub lastThree : Rule
+lastThree = byNumber 3
+
+-- one centre, fineness 2, and a fine limit
+abbrev pub oneCentre : ℕ → Settings
+oneCentre fineLimit = record { k = 1; f = 2; fineLimit = fineLimit }
+
+-- a book that is being set up, with further radii entered
+abbrev pub entered : List ℕ → Setup → Setup
+entered [] u = u
+entered (g ∷ gs) u = entered gs (leaves (whyNotRadius u g) u (record { settings = u .settings; radii = u .radii ++ (g ∷ []) }))
+
+abbrev pub setUp : ℕ → Setup
+setUp fineLimit = entered (1 ∷ 2 ∷ 4 ∷ []) (record { settings = oneCentre fineLimit; radii = 0 ∷ [] })
+
+-- the open book, with a shelf of 56 places
+abbrev pub opened : Setup → View Panel
+opened u = record { settings = u .settings; rows = map bare (u .radii); posts = 0; day = 0; places = 56 }
+
+-- panels of such offsets posted one after another
+abbrev pub fed : List ℕ → View Panel → View Panel
+fed [] b = b
+fed (n ∷ ns) b = fed ns (leaves (whyNotPost b 1) b (posted hull lastThree (panel n) 1 b))
+
+abbrev pub book : ℕ → List ℕ → View Panel
+book fineLimit ns = fed ns (opened (setUp fineLimit))
+
+-- A pick from that book, lent the answer list 7, 9, answers r and leaves the answer list as `left`.
+abbrev pub Picks : ℕ → List ℕ → Result Picked Refusal → List ℕ → Type 0
+Picks fineLimit ns r left = PickRule hull lastThree (book fineLimit ns) (7 ∷ 9 ∷ []) (0 ∷ 0 ∷ 0 ∷ 0 ∷ []) r left (0 ∷ 0 ∷ 0 ∷ 0 ∷ [])
