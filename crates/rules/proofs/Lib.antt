@@ -1,0 +1,10 @@
+pub mod Somes
+pub mod Changes
+pub mod Histories
+pub mod Orphans
+pub mod Sound
+pub mod Expiring
+pub mod Attracting
+pub mod Enrolling
+pub mod Refining
+pub mod Entering
