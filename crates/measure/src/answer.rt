@@ -1,13 +1,7 @@
 //! What a request is answered with.
 
-ghost use mathlib.Core.Path.{_≡_};
-ghost use Rattle.measure.specs.Laid.{Laid};
 use grade::CheckedTable;
-use refusal::Refusal;
 use std::fmt;
-use tape::Cut;
-use tape::CutTape;
-use tape::Tape;
 
 /// The answer to a line.
 #[derive(Drop)]
@@ -34,19 +28,6 @@ pub impl fmt::Display for Reply as ReplyDisplay {
                 }
                 Ok(())
             }
-        }
-    }
-}
-
-/// Lays a tape between two pieces, cut off at `cut` where there is one.
-pub fn lay<P, T: Tape<P> + Drop>(tape: T, cut: Option<u32>, a: &P, b: &P) -> Result<u32, Refusal>
-    ensures { λ r. ⌜ Laid (T·Tape .dist tape (now (a .entry)) (now (b .entry))) cut r ⌝ }
-{
-    match cut {
-        None => Ok(tape.measure(a, b)),
-        Some(cap) => {
-            let tape = Cut::new(tape, cap)?;
-            Ok(tape.measure(a, b))
         }
     }
 }

@@ -1,7 +1,6 @@
 //! Requests: each reads its words and asks the libraries.
 
 use crate::answer::Reply;
-use crate::answer::lay;
 use crate::piece::Read;
 use crate::piece::ReadGrade;
 use crate::piece::ReadJoined;
@@ -30,6 +29,7 @@ use tape::Tape;
 use tape::TapeOfJoined;
 use tape::TapeOfPanels;
 use tape::TapeOfParts;
+use tape::lay;
 use term::Clock;
 use term::Stamp;
 use term::Term;

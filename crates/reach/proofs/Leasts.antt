@@ -35,27 +35,29 @@ last test size m xs i d l h =
     (all-getD (λ x. test x ≡ true → size x ≤ m) (take (i + 1) xs) i d (omega arith) h)
 
 -- one more element x, which passes
-pub least-passes : {X : Type 0} (test : X → Bool) (size : X → ℕ) (r n : ℕ) (xs : List X) (i : ℕ) (x : X) → i < length xs
+pub least-passes : {X : Type 0} (test : X → Bool) (size : X → ℕ) (r m n : ℕ) (xs : List X) (i : ℕ) (x : X)
+    → i < length xs
     → x ≡ getD xs i x
-    → test x ≡ true
-    → n ≡ max (size x) r
+    → true ≡ test x
+    → m ≡ size x
+    → n ≡ max m r
     → Least test size r (take i xs)
     → Least test size n (take (i + 1) xs)
-least-passes test size r n xs i x l is t e h = (
+least-passes test size r m n xs i x l is t k e h = (
   all-more (λ y. test y ≡ true → size y ≤ n) xs i x l
       (all-weaker (λ y. test y ≡ true → size y ≤ r) (λ y. test y ≡ true → size y ≤ n)
       (λ y f p. let low = f p in omega arith) (take i xs) (h .0))
       (subst (λ y. test y ≡ true → size y ≤ n) is (λ p. omega arith)),
   λ m w.
       let low = h .1 m (front test size m xs i w) in
-      let here = subst (λ y. test y ≡ true → size y ≤ m) (sym is) (last test size m xs i x l w) t in
+      let here = subst (λ y. test y ≡ true → size y ≤ m) (sym is) (last test size m xs i x l w) (sym t) in
       omega arith,
 )
 
 -- one more element x, which fails
 pub least-fails : {X : Type 0} (test : X → Bool) (size : X → ℕ) (r n : ℕ) (xs : List X) (i : ℕ) (x : X) → i < length xs
     → x ≡ getD xs i x
-    → test x ≡ false
+    → false ≡ test x
     → n ≡ r
     → Least test size r (take i xs)
     → Least test size n (take (i + 1) xs)

@@ -1,6 +1,6 @@
 use mathlib.Core.Bool.{Bool}
-use mathlib.Core.Path.{_≡_, sym, ap, _∙_}
-use Prim.Native.Nat.{ℕ, max}
+use mathlib.Core.Path.{_∙_}
+use Prim.Native.Nat.{ℕ}
 use Rattle.reach.specs.declared.Posted.{Posted}
 use Rattle.reach.proofs.Leasts.{least-all, least-fails, least-passes}
 use Rattle.reach.proofs.reach.Needs as need
@@ -13,15 +13,16 @@ loop-x-again g c =
     let size : Posted (g .P .Denot) → ℕ = λ x. g .T·Tape .dist (c .args .tape .now) (c .args .board .now) (x .piece) in
     let i = c .loop-x .x-index in
     let xs = c .args .posted .now in
+    let x = c .x-item .result in
+    let before = c .loop-x .most in
+    let after = c .if-still .most in
     elim (c .if-still .came) [
       | then-still w ↦
-          let now : c .if-still .most ≡ max (size (c .x-item .result)) (c .loop-x .most) =
-          w .most-is ∙ w .max-most .ensures ∙ ap (λ n. max n (c .loop-x .most)) (w .measure .ensures) in
-          least-passes test size (c .loop-x .most) (c .if-still .most) xs i (c .x-item .result) (c .loop-x-test .taken) (c .x-item .is)
-          (sym (w .if-still .ensures tt)) now (c .loop-x .inv)
+          least-passes test size before (w .measure .result) after xs i x (c .loop-x-test .taken) (c .x-item .is)
+          (w .if-still .ensures tt) (w .measure .ensures) (w .most-is ∙ w .max-most .ensures) (c .loop-x .inv)
       | else-still w ↦
-          least-fails test size (c .loop-x .most) (c .if-still .most) xs i (c .x-item .result) (c .loop-x-test .taken) (c .x-item .is)
-          (sym (w .if-still .ensures tt)) (w .most-is) (c .loop-x .inv)
+          least-fails test size before after xs i x (c .loop-x-test .taken) (c .x-item .is)
+          (w .if-still .ensures tt) (w .most-is) (c .loop-x .inv)
     ]
 
 pub returns : need.returns
