@@ -1,3 +1,4 @@
 pub mod Limits
 pub mod Hull
 pub mod Joinery
+pub mod Laid

@@ -4,6 +4,7 @@ ghost use mathlib.Core.Path.{_≡_};
 ghost use Prim.Native.Nat.{min, _<_, _≤_};
 ghost use Rattle.refusal.specs.Makes.{MadeIf, OneToMillion};
 ghost use Rattle.refusal.specs.declared.Refusal.the-variants.{SettingOutOfRange};
+ghost use Rattle.tape.specs.Laid.{Laid};
 ghost use Rattle.tape.specs.Limits.{limit};
 use crate::distance::Tape;
 use refusal::Refusal;
@@ -34,5 +35,18 @@ pub impl<P, T: Tape<P>> Tape<P> for Cut<T> as CutTape {
 
     fn measure(&self, a: &P, b: &P) -> u32 {
         self.inner.measure(a, b).min(self.cap)
+    }
+}
+
+/// Lays a tape between two pieces, cut off at `cut` where there is one.
+pub fn lay<P, T: Tape<P> + Drop>(tape: T, cut: Option<u32>, a: &P, b: &P) -> Result<u32, Refusal>
+    ensures { λ r. ⌜ Laid (T·Tape .dist tape (now (a .entry)) (now (b .entry))) cut r ⌝ }
+{
+    match cut {
+        None => Ok(tape.measure(a, b)),
+        Some(cap) => {
+            let tape = Cut::new(tape, cap)?;
+            Ok(tape.measure(a, b))
+        }
     }
 }

@@ -11,6 +11,7 @@ pub mod joinery;
 
 pub use cut::Cut;
 pub use cut::CutTape;
+pub use cut::lay;
 pub use distance::Tape;
 pub use hull::HullTape;
 pub use hull::Panel;

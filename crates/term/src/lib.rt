@@ -5,6 +5,7 @@
 
 pub mod last;
 pub mod pair;
+pub mod span;
 pub mod window;
 
 pub use last::ByDays;
@@ -15,6 +16,8 @@ pub use pair::Both;
 pub use pair::Either;
 pub use pair::TermOfBoth;
 pub use pair::TermOfEither;
+pub use span::Span;
+pub use span::TermOfSpan;
 pub use window::Clock;
 pub use window::Stamp;
 pub use window::Term;
