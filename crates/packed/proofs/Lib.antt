@@ -1,0 +1,3 @@
+pub mod Packing
+pub mod Firsts
+pub mod Leasts

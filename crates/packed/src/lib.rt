@@ -1,0 +1,17 @@
+//! Lists of places, packed from the front of a slice: which of them pass a test, and what stays.
+
+pub mod search;
+pub mod stay;
+pub mod test;
+
+pub use search::first_of;
+pub use search::least_of;
+pub use stay::marks;
+pub use stay::pack;
+pub use test::Counting;
+pub use test::Near;
+pub use test::Since;
+pub use test::Test;
+pub use test::TestOfCounting;
+pub use test::TestOfNear;
+pub use test::TestOfSince;
