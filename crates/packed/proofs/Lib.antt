@@ -1,3 +1,5 @@
 pub mod Packing
 pub mod Firsts
 pub mod Leasts
+pub mod Betweens
+pub mod Removing

@@ -1,14 +1,15 @@
 -- A loop that moves what is marked to the front.
 use mathlib.Core.Bool.{Bool, true, false, cond}
-use mathlib.Core.List.{List, [], _∷_, _++_, append-nil}
+use mathlib.Core.List.{List, [], _∷_, _++_, append-nil, map}
 use mathlib.Core.Path.{_≡_, refl, sym, ap, _∙_}
 use Prim.Native.Nat.{ℕ, zero, suc, _+_, _-_, _<_, _≤_}
 use native.Mathlib.Numerals.{add-one}
 use native.Mathlib.Omega.{arith}
-use lib.ListN.{length, getD, set, take, drop, length-set}
+use lib.ListN.{length, getD, set, take, drop, length-drop, length-set}
 use Rattle.std.proofs.shelf.Lists.{drop-at, drop-more, drop-set-lt, length-take-le, take-all, take-append-le, take-more, take-more-set}
 use borrow.Rule.Slice.PartMut.{putMid}
-use Rattle.packed.specs.Lists.{picked}
+use Rattle.std.specs.shelf.Lists.{kept-by}
+use Rattle.packed.specs.Lists.{cut, picked}
 
 -- one more element at the end
 picked-push : {X : Type 0} (bs : List Bool) (xs : List X) (x : X) → length xs < length bs
@@ -94,3 +95,23 @@ cut-putMid a k r xs ys h q =
 
 pub past-start : (a n : ℕ) → (a + n) - a ≡ n
 past-start a n = omega arith
+
+-- marked by a test
+pub picked-by : {X : Type 0} (f : X → Bool) (bs : List Bool) (xs : List X) → take (length xs) bs ≡ map f xs → picked bs xs ≡ kept-by f xs
+picked-by f bs [] e = refl
+picked-by f [] (x ∷ xs) e = let z : _≡_ {A = ℕ} 0 1 = cc in let no : ⊥ = omega arith in absurd no
+picked-by f (b ∷ bs) (x ∷ xs) e =
+    let here : b ≡ f x = cc in
+    let rest : take (length xs) bs ≡ map f xs = cc in
+    ap (λ c. cond c (x ∷ picked bs xs) (picked bs xs)) here
+    ∙ ap (λ ys. cond (f x) (x ∷ ys) ys) (picked-by f bs xs rest)
+
+pub length-cut : {X : Type 0} (at len : ℕ) (xs : List X) → at + len ≤ length xs → length (cut at len xs) ≡ len
+length-cut at len xs h = length-take-le len (drop at xs) (simp length-drop (omega arith))
+
+-- what is kept of a list in a part
+pub picked-cut : {X : Type 0} (f : X → Bool) (bs : List Bool) (at len : ℕ) (xs : List X) → at + len ≤ length xs
+    → take len bs ≡ map f (cut at len xs)
+    → picked bs (cut at len xs) ≡ kept-by f (cut at len xs)
+picked-cut f bs at len xs h e =
+    picked-by f bs (cut at len xs) (ap (λ n. take n bs) (length-cut at len xs h) ∙ e)

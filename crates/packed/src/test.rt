@@ -4,7 +4,6 @@ ghost use mathlib.Core.Bool.{Bool};
 ghost use mathlib.Core.Path.{_≡_};
 ghost use denote.Ref.{now};
 ghost use lib.Dec.{eqb, leb};
-ghost use Rattle.rules.specs.Steps.{alive};
 ghost use Rattle.rules.specs.declared.place.Place.{Place};
 use rules::Place;
 use tape::Tape;
@@ -68,5 +67,19 @@ pub impl<'a, P, T: Tape<P>> Test<P> for Near<'a, P, T> as TestOfNear {
 
     fn passes_at(&self, place: &Place<P>) -> bool {
         self.tape.measure(&place.piece, self.piece) <= self.radius
+    }
+}
+
+/// It stands for what an attractor took.
+#[derive(Clone, Copy)]
+pub struct StandingFor {
+    pub attractor: u32,
+}
+
+pub impl<P> Test<P> for StandingFor as TestOfStandingFor {
+    ghost passes = { λ t x. eqb (x .attractor) (t .attractor) };
+
+    fn passes_at(&self, place: &Place<P>) -> bool {
+        place.attractor == self.attractor
     }
 }

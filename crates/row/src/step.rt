@@ -1,0 +1,32 @@
+//! A turn of the day and a post, at one radius.
+
+ghost use mathlib.Core.Path.{_≡_};
+ghost use Prim.Native.Nat.{_≤_};
+ghost use lib.ListN.{length};
+ghost use Rattle.rules.specs.Limits.{partSize};
+ghost use Rattle.rules.specs.Steps as rule;
+ghost use Rattle.row.specs.Seen.{Within, judged, seenRow};
+use crate::keeping::keep_attractors;
+use crate::keeping::keep_entries;
+use crate::keeping::keep_representatives;
+use crate::kept::Row;
+use crate::settings::Settings;
+use packed::Counting;
+use packed::TestOfCounting;
+use rules::Place;
+use term::Clock;
+use term::Term;
+
+/// Removes what no longer counts.
+pub fn expire<P: Copy, W: Term>(row: &mut Row, part: &mut [Place<P>], settings: Settings, term: &W, clock: Clock)
+    requires { ⌜ Within settings (now row) ⌝ }
+    requires { ⌜ length (now part) ≡ partSize (judged settings) ⌝ }
+    ensures seen { λ _. ⌜ seenRow settings (now (row .exit)) (now (part .exit)) ≡ rule.expire (W·Term .counts (now (term .entry))) (clock .posts) (clock .day) (seenRow settings (now (row .entry)) (now (part .entry))) ⌝ }
+    ensures within { λ _. ⌜ Within settings (now (row .exit)) ⌝ }
+    ensures radius { λ _. ⌜ now (row .exit) .radius ≡ now (row .entry) .radius ⌝ }
+{
+    let counting = Counting { term, clock };
+    keep_attractors(row, part, settings, &counting);
+    keep_representatives(row, part, settings, &counting);
+    keep_entries(row, part, settings, &counting);
+}
