@@ -60,7 +60,7 @@ entries-packed f bs a b n m r xs ys zs apart room ly lz hm hr marks first bxy se
     let e2 = ap length latests in
     let mr : r ≡ m = omega arith in
     let firsts : cut a r zs ≡ picked bs (cut a n xs) =
-        cut-below b (b + n) a r ys zs byz (omega arith) ∙ ap (λ i. cut a i ys) mr ∙ first in
+    cut-below b (b + n) a r ys zs byz (omega arith) ∙ ap (λ i. cut a i ys) mr ∙ first in
     ap (λ us. entries us (cut b r zs)) firsts
     ∙ ap (entries (picked bs (cut a n xs))) latests
     ∙ entries-kept f bs (cut a n xs) (cut b n xs) (omega arith) (ap (λ i. take i bs) lb ∙ marks)

@@ -15,7 +15,12 @@ use packed::pack;
 use rules::Place;
 
 /// Keeps the attractors that pass.
-pub fn keep_attractors<P: Copy, Q: Test<P>>(row: &mut Row, part: &mut [Place<P>], settings: Settings, test: &Q)
+pub fn keep_attractors<P: Copy, Q: Test<P>>(
+    row: &mut Row,
+    part: &mut [Place<P>],
+    settings: Settings,
+    test: &Q,
+)
     requires { ⌜ Within settings (now row) ⌝ }
     requires { ⌜ length (now part) ≡ partSize (judged settings) ⌝ }
     ensures seen { λ _. ⌜ seenRow settings (now (row .exit)) (now (part .exit)) ≡ withAttractors (kept-by (Q·Test .passes (now (test .entry))) (seenRow settings (now (row .entry)) (now (part .entry)) .attractors)) (seenRow settings (now (row .entry)) (now (part .entry))) ⌝ }
@@ -26,7 +31,12 @@ pub fn keep_attractors<P: Copy, Q: Test<P>>(row: &mut Row, part: &mut [Place<P>]
 }
 
 /// Keeps the representatives that pass.
-pub fn keep_representatives<P: Copy, Q: Test<P>>(row: &mut Row, part: &mut [Place<P>], settings: Settings, test: &Q)
+pub fn keep_representatives<P: Copy, Q: Test<P>>(
+    row: &mut Row,
+    part: &mut [Place<P>],
+    settings: Settings,
+    test: &Q,
+)
     requires { ⌜ Within settings (now row) ⌝ }
     requires { ⌜ length (now part) ≡ partSize (judged settings) ⌝ }
     ensures seen { λ _. ⌜ seenRow settings (now (row .exit)) (now (part .exit)) ≡ withRepresentatives (kept-by (Q·Test .passes (now (test .entry))) (seenRow settings (now (row .entry)) (now (part .entry)) .representatives)) (seenRow settings (now (row .entry)) (now (part .entry))) ⌝ }
@@ -37,7 +47,12 @@ pub fn keep_representatives<P: Copy, Q: Test<P>>(row: &mut Row, part: &mut [Plac
 }
 
 /// Keeps the fine entries whose latest piece passes.
-pub fn keep_entries<P: Copy, Q: Test<P>>(row: &mut Row, part: &mut [Place<P>], settings: Settings, test: &Q)
+pub fn keep_entries<P: Copy, Q: Test<P>>(
+    row: &mut Row,
+    part: &mut [Place<P>],
+    settings: Settings,
+    test: &Q,
+)
     requires { ⌜ Within settings (now row) ⌝ }
     requires { ⌜ length (now part) ≡ partSize (judged settings) ⌝ }
     ensures seen { λ _. ⌜ seenRow settings (now (row .exit)) (now (part .exit)) ≡ withFine (kept-by (λ e. Q·Test .passes (now (test .entry)) (e .latest)) (seenRow settings (now (row .entry)) (now (part .entry)) .fine)) (now (row .entry) .lost) (seenRow settings (now (row .entry)) (now (part .entry))) ⌝ }

@@ -1,7 +1,6 @@
 //! One radius of a book: its row, its part of the shelf, and what a post and a turn of the day do to them.
 
-
-
+mod coarse;
 mod keeping;
 pub mod kept;
 pub mod settings;
@@ -10,4 +9,3 @@ mod step;
 pub use kept::Row;
 pub use settings::Settings;
 pub use step::expire;
-

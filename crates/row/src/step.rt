@@ -18,7 +18,13 @@ use term::Clock;
 use term::Term;
 
 /// Removes what no longer counts.
-pub fn expire<P: Copy, W: Term>(row: &mut Row, part: &mut [Place<P>], settings: Settings, term: &W, clock: Clock)
+pub fn expire<P: Copy, W: Term>(
+    row: &mut Row,
+    part: &mut [Place<P>],
+    settings: Settings,
+    term: &W,
+    clock: Clock,
+)
     requires { ⌜ Within settings (now row) ⌝ }
     requires { ⌜ length (now part) ≡ partSize (judged settings) ⌝ }
     ensures seen { λ _. ⌜ seenRow settings (now (row .exit)) (now (part .exit)) ≡ rule.expire (W·Term .counts (now (term .entry))) (clock .posts) (clock .day) (seenRow settings (now (row .entry)) (now (part .entry))) ⌝ }

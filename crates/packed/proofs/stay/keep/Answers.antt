@@ -7,7 +7,7 @@ returns g c = record {
   kept =
       c .pack .ensures .packed
       ∙ picked-cut (g .Q·Test .passes (c .args .test .now)) (c .marks-in-stay .result) (c .args .at) (c .args .len) (c .args .part .now) (c .pre .0)
-        (c .marks-in-stay .ensures);
+      (c .marks-in-stay .ensures);
   within = c .pack .ensures .within;
   between = c .pack .ensures .between;
 }

@@ -20,7 +20,7 @@ returns g c =
     let there = c .pre .2 in
     let long : length (cut at len xs) ≡ len = length-cut at len xs inside in
     let gone : cut at (c .pack .result) ys ≡ removed (cut at len xs) i =
-        c .pack .ensures .packed ∙ picked-but 64 i (cut at len xs) (omega arith) (omega arith) in
+    c .pack .ensures .packed ∙ picked-but 64 i (cut at len xs) (omega arith) (omega arith) in
     record {
       removed = gone;
       fewer = one-fewer at len (c .pack .result) i xs ys inside (c .pack .kept .part) (c .pack .ensures .within) there gone;

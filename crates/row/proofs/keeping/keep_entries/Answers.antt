@@ -25,13 +25,13 @@ returns g c =
     let fewer = c .pack-row .ensures .within in
     let end = latestsAt s + n in
     let first : Between (firstsAt s) end xs ys =
-        between-wider (firstsAt s) (firstsAt s + n) (firstsAt s) end xs ys (omega arith) (omega arith) (c .pack-left .ensures .between) in
+    between-wider (firstsAt s) (firstsAt s + n) (firstsAt s) end xs ys (omega arith) (omega arith) (c .pack-left .ensures .between) in
     let second : Between (firstsAt s) end ys zs =
-        between-wider (latestsAt s) end (firstsAt s) end ys zs (omega arith) (omega arith) (c .pack-row .ensures .between) in
+    between-wider (latestsAt s) end (firstsAt s) end ys zs (omega arith) (omega arith) (c .pack-row .ensures .between) in
     let left =
-        entries-packed (g .Q·Test .passes (c .args .test .now)) (c .marks-in-stay .result) (firstsAt s) (latestsAt s) n (c .pack-left .result) (c .pack-row .result) xs ys zs
-        (omega arith) (omega arith) ly lz (c .pack-left .ensures .within) fewer (c .marks-in-stay .ensures)
-        (c .pack-left .ensures .packed) (c .pack-left .ensures .between) (c .pack-row .ensures .packed) (c .pack-row .ensures .between) in
+    entries-packed (g .Q·Test .passes (c .args .test .now)) (c .marks-in-stay .result) (firstsAt s) (latestsAt s) n (c .pack-left .result) (c .pack-row .result) xs ys zs
+    (omega arith) (omega arith) ly lz (c .pack-left .ensures .within) fewer (c .marks-in-stay .ensures)
+    (c .pack-left .ensures .packed) (c .pack-left .ensures .between) (c .pack-row .ensures .packed) (c .pack-row .ensures .between) in
     record {
       seen = fine-edited s row (c .pack-row .result) (row .lost) end xs zs _ (w .0) (w .1) (between-then (firstsAt s) end xs ys zs first second) left;
       within = (w .0, w .1, omega arith);
