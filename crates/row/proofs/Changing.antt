@@ -10,7 +10,8 @@ use Rattle.std.proofs.shelf.Tests.{eq-eqb, ne-eqb}
 use Rattle.std.specs.Holes.{removed}
 use Rattle.std.proofs.shelf.Lists.{drop-set-add, take-more-set}
 use Rattle.packed.specs.Lists.{cut, firstAt}
-use Rattle.rules.specs.Words.{changeFirst}
+use Rattle.std.specs.declared.option.Option.the-variants.{Some, None}
+use Rattle.rules.specs.Words.{changeFirst, firstOf}
 use Rattle.rules.specs.declared.place.Place.{Place}
 use Rattle.row.specs.Edits.{lessOldest}
 
@@ -58,3 +59,24 @@ trimmed k xs h = ap (λ b. cond b (drop 1 xs) xs) (sym (eq-eqb (length xs) (suc 
 -- fewer lose none
 pub untrimmed : {P : Type 0} (k : ℕ) (xs : List (Place P)) → length xs ≤ k → xs ≡ lessOldest k xs
 untrimmed k xs h = ap (λ b. cond b (drop 1 xs) xs) (sym (ne-eqb (length xs) (suc k) (omega arith)))
+
+-- the first that passes, by its place
+pub first-found : {X : Type 0} (test : X → Bool) (xs : List X) (x : X) → firstAt test xs < length xs → x ≡ getD xs (firstAt test xs) x
+    → firstOf test xs ≡ Some x
+first-found test [] x h is = let z : ⊥ = omega arith in absurd z
+first-found test (y ∷ xs) x h is = go (first-found test xs x) (test y) h is
+  where
+    go : (firstAt test xs < length xs → x ≡ getD xs (firstAt test xs) x → firstOf test xs ≡ Some x)
+      → (b : Bool) → cond b 0 (suc (firstAt test xs)) < suc (length xs) → x ≡ getD (y ∷ xs) (cond b 0 (suc (firstAt test xs))) x
+      → cond b (Some y) (firstOf test xs) ≡ Some x
+    go rest true k i = ap Some (sym i)
+    go rest false k i = rest (omega arith) i
+
+pub first-missing : {X : Type 0} (test : X → Bool) (xs : List X) → length xs ≤ firstAt test xs → firstOf test xs ≡ None
+first-missing test [] h = refl
+first-missing test (y ∷ xs) h = go (first-missing test xs) (test y) h
+  where
+    go : (length xs ≤ firstAt test xs → firstOf test xs ≡ None)
+      → (b : Bool) → suc (length xs) ≤ cond b 0 (suc (firstAt test xs)) → cond b (Some y) (firstOf test xs) ≡ None
+    go rest true k = let z : ⊥ = omega arith in absurd z
+    go rest false k = rest (omega arith)

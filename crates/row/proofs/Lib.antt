@@ -1,3 +1,4 @@
 pub mod Edited
 pub mod Pairs
 pub mod Changing
+pub mod Enrolled

@@ -119,3 +119,45 @@ fn attract<P: Copy>(
         part[start + i] = standing_for(place, attractor);
     }
 }
+
+/// Whether a piece of an arrival still stands beside the attractors after a clean-up.
+fn stands<P>(row: &Row, part: &[Place<P>], settings: Settings, arrival: u32) -> bool
+    requires { ⌜ Within settings (now row) ⌝ }
+    requires { ⌜ length (now part) ≡ partSize (judged settings) ⌝ }
+    ensures { λ r. ⌜ r ≡ standsWith (settings .k) arrival (seenRow settings (now (row .entry)) (now (part .entry)) .attractors) ⌝ }
+{
+    if row.attractors == settings.k + 1 { part[0].arrival <= arrival } else { true }
+}
+
+/// A piece becomes an attractor, and its own representative. It is told what follows if that fits.
+fn enrol<P: Copy>(row: &mut Row, part: &mut [Place<P>], settings: Settings, place: Place<P>)
+    requires { ⌜ Within settings (now row) ⌝ }
+    requires { ⌜ length (now part) ≡ partSize (judged settings) ⌝ }
+    ensures seen { λ _. ⌜ (length (rule.cleanUp (settings .k) (rule.enrol (settings .k) place (seenRow settings (now (row .entry)) (now (part .entry)))) .representatives) ≤ representativeRoom (settings .k) → seenRow settings (now (row .exit)) (now (part .exit)) ≡ rule.cleanUp (settings .k) (rule.enrol (settings .k) place (seenRow settings (now (row .entry)) (now (part .entry))))) ⌝ }
+    ensures within { λ _. ⌜ Within settings (now (row .exit)) ⌝ }
+{
+    trim_attractors(row, part, settings);
+    append_attractor(row, part, settings, place);
+    clean_up(row, part, settings);
+    if stands(row, part, settings, place.arrival) {
+        append_representative(row, part, settings, standing_for(place, place.arrival));
+    }
+}
+
+/// The oldest attractor within twice the radius takes a piece; if there is none, it becomes one itself.
+pub fn settle<P: Copy, T: Tape<P>>(row: &mut Row, part: &mut [Place<P>], settings: Settings, tape: &T, place: Place<P>)
+    requires { ⌜ Within settings (now row) ⌝ }
+    requires { ⌜ length (now part) ≡ partSize (judged settings) ⌝ }
+    requires { ⌜ now row .radius ≤ 1000000 ⌝ }
+    ensures seen { λ _. ⌜ (length (rule.settle (T·Tape .dist (now (tape .entry))) (settings .k) place (seenRow settings (now (row .entry)) (now (part .entry))) .representatives) ≤ representativeRoom (settings .k) → seenRow settings (now (row .exit)) (now (part .exit)) ≡ rule.settle (T·Tape .dist (now (tape .entry))) (settings .k) place (seenRow settings (now (row .entry)) (now (part .entry)))) ⌝ }
+    ensures within { λ _. ⌜ Within settings (now (row .exit)) ⌝ }
+{
+    let near = Near { tape, piece: &place.piece, radius: 2 * row.radius };
+    let i = first_in(part, 0, row.attractors, &near);
+    if i < row.attractors {
+        let attractor = part[i].arrival;
+        attract(row, part, settings, place, attractor);
+    } else {
+        enrol(row, part, settings, place);
+    }
+}
