@@ -45,7 +45,8 @@ pub fn first_in<P, Q: Test<P>>(part: &[Place<P>], at: usize, len: usize, test: &
 pub fn least_in<P>(part: &[Place<P>], at: usize, len: usize) -> usize
     requires { ⌜ at + len ≤ length (now part) ⌝ }
     requires { ⌜ 0 < len ⌝ }
-    ensures { λ r. ⌜ LeastAt (cut at len (now (part .entry))) r ⌝ }
+    ensures least { λ r. ⌜ LeastAt (cut at len (now (part .entry))) r ⌝ }
+    ensures inside { λ r. ⌜ r < len ⌝ }
 {
     least_of(&part[at..at + len])
 }
