@@ -38,7 +38,7 @@ change-set test change z [] same = refl
 change-set test change z (x ∷ xs) same = go (change-set test change z xs same) (test x) refl
   where
     go : set xs (firstAt test xs) z ≡ changeFirst test change xs
-      → (b : Bool) → test x ≡ b → set (x ∷ xs) (cond b 0 (suc (firstAt test xs))) z ≡ cond b (change x ∷ xs) (x ∷ changeFirst test change xs)
+        → (b : Bool) → test x ≡ b → set (x ∷ xs) (cond b 0 (suc (firstAt test xs))) z ≡ cond b (change x ∷ xs) (x ∷ changeFirst test change xs)
     go rest true e = ap (λ y. y ∷ xs) (sym (same x e))
     go rest false e = ap (λ ys. x ∷ ys) rest
 
@@ -48,7 +48,7 @@ change-none test change [] h = refl
 change-none test change (x ∷ xs) h = go (change-none test change xs) (test x) h
   where
     go : (length xs ≤ firstAt test xs → xs ≡ changeFirst test change xs)
-      → (b : Bool) → suc (length xs) ≤ cond b 0 (suc (firstAt test xs)) → x ∷ xs ≡ cond b (change x ∷ xs) (x ∷ changeFirst test change xs)
+        → (b : Bool) → suc (length xs) ≤ cond b 0 (suc (firstAt test xs)) → x ∷ xs ≡ cond b (change x ∷ xs) (x ∷ changeFirst test change xs)
     go rest true k = let z : ⊥ = omega arith in absurd z
     go rest false k = ap (λ ys. x ∷ ys) (rest (omega arith))
 
@@ -67,8 +67,8 @@ first-found test [] x h is = let z : ⊥ = omega arith in absurd z
 first-found test (y ∷ xs) x h is = go (first-found test xs x) (test y) h is
   where
     go : (firstAt test xs < length xs → x ≡ getD xs (firstAt test xs) x → firstOf test xs ≡ Some x)
-      → (b : Bool) → cond b 0 (suc (firstAt test xs)) < suc (length xs) → x ≡ getD (y ∷ xs) (cond b 0 (suc (firstAt test xs))) x
-      → cond b (Some y) (firstOf test xs) ≡ Some x
+        → (b : Bool) → cond b 0 (suc (firstAt test xs)) < suc (length xs) → x ≡ getD (y ∷ xs) (cond b 0 (suc (firstAt test xs))) x
+        → cond b (Some y) (firstOf test xs) ≡ Some x
     go rest true k i = ap Some (sym i)
     go rest false k i = rest (omega arith) i
 
@@ -77,6 +77,6 @@ first-missing test [] h = refl
 first-missing test (y ∷ xs) h = go (first-missing test xs) (test y) h
   where
     go : (length xs ≤ firstAt test xs → firstOf test xs ≡ None)
-      → (b : Bool) → suc (length xs) ≤ cond b 0 (suc (firstAt test xs)) → cond b (Some y) (firstOf test xs) ≡ None
+        → (b : Bool) → suc (length xs) ≤ cond b 0 (suc (firstAt test xs)) → cond b (Some y) (firstOf test xs) ≡ None
     go rest true k = let z : ⊥ = omega arith in absurd z
     go rest false k = rest (omega arith)

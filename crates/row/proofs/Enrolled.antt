@@ -45,7 +45,7 @@ seated b x row = withRepresentatives (row .representatives ++ cond b (standingFo
 -- cleaning up before or after the representative is stored
 clean-first : {P : Type 0} (k : ℕ) (x : Place P) (row : Row P) (b : Bool) → eqb (length (row .attractors)) (suc k) ≡ b
     → seated (standsWith k (x .arrival) (cleanUp k row .attractors)) x (cleanUp k row)
-      ≡ cleanUp k (withRepresentatives (row .representatives ++ (standingFor (x .arrival) x ∷ [])) row)
+    ≡ cleanUp k (withRepresentatives (row .representatives ++ (standingFor (x .arrival) x ∷ [])) row)
 clean-first {P} k x row true e =
     let o = oldest (row .attractors) in
     let new : Place P = standingFor (x .arrival) x in
@@ -104,11 +104,11 @@ pub enrol-stands : {P : Type 0} (k n room : ℕ) (x z : Place P) (r0 r3 r4 : Row
     → r4 ≡ cleanUp k (enrol k x r0)
 enrol-stands {P} k n room x z r0 r3 r4 e b new len store fits =
     let all : seated true x r3 ≡ cleanUp k (enrol k x r0) =
-        ap (λ c. seated c x r3) b
-        ∙ ap (λ r. seated (standsWith k (x .arrival) (r .attractors)) x r) e
-        ∙ enrolled k x r0 in
+    ap (λ c. seated c x r3) b
+    ∙ ap (λ r. seated (standsWith k (x .arrival) (r .attractors)) x r) e
+    ∙ enrolled k x r0 in
     let long : length (cleanUp k (enrol k x r0) .representatives) ≡ length (r3 .representatives) + 1 =
-        ap (λ r. length (r .representatives)) (sym all) ∙ length-append (r3 .representatives) (standingFor (x .arrival) x ∷ []) in
+    ap (λ r. length (r .representatives)) (sym all) ∙ length-append (r3 .representatives) (standingFor (x .arrival) x ∷ []) in
     store (omega arith) ∙ ap (λ y. withRepresentatives (r3 .representatives ++ (y ∷ [])) r3) new ∙ all
 
 -- where it does not

@@ -59,8 +59,8 @@ entry-taken test z (x ∷ xs) [] h = let no : ⊥ = omega arith in absurd no
 entry-taken {P} test z (x ∷ xs) (y ∷ ys) h = go (entry-taken test z xs ys (omega arith)) (test x)
   where
     go : entries xs (set ys (firstAt test xs) z) ≡ changeFirst (λ e. test (e .first)) (takenBy z) (entries xs ys)
-      → (b : Bool)
-      → entries (x ∷ xs) (set (y ∷ ys) (cond b 0 (suc (firstAt test xs))) z)
+        → (b : Bool)
+        → entries (x ∷ xs) (set (y ∷ ys) (cond b 0 (suc (firstAt test xs))) z)
         ≡ cond b (record { first = x; latest = z } ∷ entries xs ys) (record { first = x; latest = y } ∷ changeFirst (λ e. test (e .first)) (takenBy z) (entries xs ys))
     go rest true = refl
     go rest false = ap (λ es. record { first = x; latest = y } ∷ es) rest

@@ -32,7 +32,7 @@ least-at {X} n d x (y ∷ ys) zero h low first =
     ap (λ b. cond {A = X × List X} b (x, y ∷ ys) (least n y ys .0, x ∷ least n y ys .1)) (le-leb (n x) (n (least n y ys .0)) under)
 least-at {X} n d x (y ∷ ys) (suc i) h low first =
     let rest : least n y ys ≡ (getD (y ∷ ys) i d, removed (y ∷ ys) i) =
-        least-at n d y ys i (omega arith) (λ k l. low (suc k) (omega arith)) (λ k l. first (suc k) (omega arith)) in
+    least-at n d y ys i (omega arith) (λ k l. low (suc k) (omega arith)) (λ k l. first (suc k) (omega arith)) in
     let over : n (getD (y ∷ ys) i d) < n x = first 0 (omega arith) in
     ap (λ p. cond {A = X × List X} (leb (n x) (n (p .0))) (x, y ∷ ys) (p .0, x ∷ p .1)) rest
     ∙ ap (λ b. cond {A = X × List X} b (x, y ∷ ys) (getD (y ∷ ys) i d, x ∷ removed (y ∷ ys) i)) (lt-leb (n x) (n (getD (y ∷ ys) i d)) over)

@@ -5,3 +5,4 @@ pub mod Enrolled
 pub mod Leasts
 pub mod Fines
 pub mod Rooms
+pub mod Steps

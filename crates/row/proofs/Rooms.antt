@@ -28,18 +28,18 @@ use Rattle.row.proofs.Leasts.{least-at}
 -- one more entry, in the lists from a and from b on
 pub entries-appended : {P : Type 0} (a b n : ℕ) (xs : List (Place P)) (x : Place P) → a + n < b → b + n < length xs
     → entries (cut a (n + 1) (set (set xs (a + n) x) (b + n) x)) (cut b (n + 1) (set (set xs (a + n) x) (b + n) x))
-      ≡ entries (cut a n xs) (cut b n xs) ++ (record { first = x; latest = x } ∷ [])
+    ≡ entries (cut a n xs) (cut b n xs) ++ (record { first = x; latest = x } ∷ [])
 entries-appended {P} a b n xs x h l =
     let ys : List (Place P) = set xs (a + n) x in
     let zs : List (Place P) = set ys (b + n) x in
     let ly : length ys ≡ length xs = simp length-set refl in
     let firsts : cut a (n + 1) zs ≡ cut a n xs ++ (x ∷ []) =
-        cut-below (b + n) (b + n + 1) a (n + 1) ys zs (between-set (b + n) (b + n + 1) (b + n) ys x (omega arith) (omega arith)) (omega arith)
-        ∙ cut-push a n xs x (omega arith) in
+    cut-below (b + n) (b + n + 1) a (n + 1) ys zs (between-set (b + n) (b + n + 1) (b + n) ys x (omega arith) (omega arith)) (omega arith)
+    ∙ cut-push a n xs x (omega arith) in
     let latests : cut b (n + 1) zs ≡ cut b n xs ++ (x ∷ []) =
-        cut-push b n ys x (omega arith)
-        ∙ ap (λ us. us ++ (x ∷ []))
-          (cut-above (a + n) (a + n + 1) b n xs ys (between-set (a + n) (a + n + 1) (a + n) xs x (omega arith) (omega arith)) (omega arith)) in
+    cut-push b n ys x (omega arith)
+    ∙ ap (λ us. us ++ (x ∷ []))
+    (cut-above (a + n) (a + n + 1) b n xs ys (between-set (a + n) (a + n + 1) (a + n) xs x (omega arith) (omega arith)) (omega arith)) in
     let la : length (cut a n xs) ≡ n = length-cut a n xs (omega arith) in
     let lb : length (cut b n xs) ≡ n = length-cut b n xs (omega arith) in
     ap (λ us. entries us (cut b (n + 1) zs)) firsts
@@ -53,9 +53,9 @@ pub entries-taken : {P : Type 0} (test : Place P → Bool) (a b n i : ℕ) (xs :
 entries-taken {P} test a b n i xs x h l k e =
     let zs : List (Place P) = set xs (b + i) x in
     let firsts : cut a n zs ≡ cut a n xs =
-        cut-below (b + i) (b + i + 1) a n xs zs (between-set (b + i) (b + i + 1) (b + i) xs x (omega arith) (omega arith)) (omega arith) in
+    cut-below (b + i) (b + i + 1) a n xs zs (between-set (b + i) (b + i + 1) (b + i) xs x (omega arith) (omega arith)) (omega arith) in
     let latests : cut b n zs ≡ set (cut b n xs) (firstAt test (cut a n xs)) x =
-        cut-set b n i xs x ∙ ap (λ j. set (cut b n xs) j x) e in
+    cut-set b n i xs x ∙ ap (λ j. set (cut b n xs) j x) e in
     let la : length (cut a n xs) ≡ n = length-cut a n xs (omega arith) in
     let lb : length (cut b n xs) ≡ n = length-cut b n xs (omega arith) in
     ap (λ us. entries us (cut b n zs)) firsts
@@ -72,7 +72,7 @@ entries-gone a b n m r i xs ys zs h l hm hr first bxy second byz =
     let mr : r ≡ m = omega arith in
     let later : cut b n ys ≡ cut b n xs = cut-above a (a + n) b n xs ys bxy h in
     let firsts : cut a r zs ≡ removed (cut a n xs) i =
-        cut-below b (b + n) a r ys zs byz (omega arith) ∙ ap (λ j. cut a j ys) mr ∙ first in
+    cut-below b (b + n) a r ys zs byz (omega arith) ∙ ap (λ j. cut a j ys) mr ∙ first in
     let latests : cut b r zs ≡ removed (cut b n xs) i = second ∙ ap (λ us. removed us i) later in
     let la : length (cut a n xs) ≡ n = length-cut a n xs (omega arith) in
     let lb : length (cut b n xs) ≡ n = length-cut b n xs (omega arith) in
@@ -99,15 +99,15 @@ room-made {P} limit (x ∷ xs) (y ∷ ys) i lost u h l is here =
     let at : (j : ℕ) → getD (e ∷ es) j e .latest ≡ getD (y ∷ ys) j y = λ j. latest-at (x ∷ xs) (y ∷ ys) j e h in
     let inside = is .within in
     let low : (j : ℕ) → j < suc (length es) → n (getD (e ∷ es) i e) ≤ n (getD (e ∷ es) j e) =
-        λ j q. let a = ap (λ p. p .arrival) (at i) in let b = ap (λ p. p .arrival) (at j) in let c = is .least j y (omega arith) in omega arith in
+    λ j q. let a = ap (λ p. p .arrival) (at i) in let b = ap (λ p. p .arrival) (at j) in let c = is .least j y (omega arith) in omega arith in
     let first : (j : ℕ) → j < i → n (getD (e ∷ es) i e) < n (getD (e ∷ es) j e) =
-        λ j q. let a = ap (λ p. p .arrival) (at i) in let b = ap (λ p. p .arrival) (at j) in let c = is .first j y q in omega arith in
+    λ j q. let a = ap (λ p. p .arrival) (at i) in let b = ap (λ p. p .arrival) (at j) in let c = is .first j y q in omega arith in
     let gone : least n e es ≡ (getD (e ∷ es) i e, removed (e ∷ es) i) = least-at n e e es i (omega arith) low first in
     let marked : getD (e ∷ es) i e .latest ≡ u = at i ∙ sym (getD-read (y ∷ ys) i u inside here y) in
     ap (λ b. cond {A = List (Entry P) × Option Stamp} b
-        (least n e es .1, Some (record { arrival = least n e es .0 .latest .arrival; day = least n e es .0 .latest .day }))
-        (e ∷ es, lost))
-       (eq-eqb (suc (length es)) limit (omega arith))
+    (least n e es .1, Some (record { arrival = least n e es .0 .latest .arrival; day = least n e es .0 .latest .day }))
+    (e ∷ es, lost))
+    (eq-eqb (suc (length es)) limit (omega arith))
     ∙ ap (λ p. (p .1, Some (record { arrival = p .0 .latest .arrival; day = p .0 .latest .day }))) gone
     ∙ ap (λ p. (removed (e ∷ es) i, Some (record { arrival = p .arrival; day = p .day }))) marked
 
@@ -116,8 +116,8 @@ pub room-there : {P : Type 0} (limit : ℕ) (es : List (Entry P)) (lost : Option
 room-there limit [] lost h = refl
 room-there {P} limit (e ∷ es) lost h =
     ap (λ b. cond {A = List (Entry P) × Option Stamp} b
-        (least (λ f. f .latest .arrival) e es .1, Some (record { arrival = least (λ f. f .latest .arrival) e es .0 .latest .arrival; day = least (λ f. f .latest .arrival) e es .0 .latest .day }))
-        (e ∷ es, lost))
+    (least (λ f. f .latest .arrival) e es .1, Some (record { arrival = least (λ f. f .latest .arrival) e es .0 .latest .arrival; day = least (λ f. f .latest .arrival) e es .0 .latest .day }))
+    (e ∷ es, lost))
     (ne-eqb (suc (length es)) limit (omega arith))
 
 -- the first entry that passes, by its first piece

@@ -30,6 +30,7 @@ fn trim_attractors<P: Copy>(row: &mut Row, part: &mut [Place<P>], settings: Sett
     requires { ⌜ length (now part) ≡ partSize (judged settings) ⌝ }
     ensures seen { λ _. ⌜ seenRow settings (now (row .exit)) (now (part .exit)) ≡ withAttractors (lessOldest (settings .k) (seenRow settings (now (row .entry)) (now (part .entry)) .attractors)) (seenRow settings (now (row .entry)) (now (part .entry))) ⌝ }
     ensures within { λ _. ⌜ Within settings (now (row .exit)) ⌝ }
+    ensures radius { λ _. ⌜ now (row .exit) .radius ≡ now (row .entry) .radius ⌝ }
     ensures room { λ _. ⌜ now (row .exit) .attractors ≤ settings .k ⌝ }
 {
     if row.attractors > settings.k {
@@ -49,6 +50,7 @@ fn append_attractor<P: Copy>(
     requires { ⌜ now row .attractors ≤ settings .k ⌝ }
     ensures seen { λ _. ⌜ seenRow settings (now (row .exit)) (now (part .exit)) ≡ withAttractors (seenRow settings (now (row .entry)) (now (part .entry)) .attractors ++ (place ∷ [])) (seenRow settings (now (row .entry)) (now (part .entry))) ⌝ }
     ensures within { λ _. ⌜ Within settings (now (row .exit)) ⌝ }
+    ensures radius { λ _. ⌜ now (row .exit) .radius ≡ now (row .entry) .radius ⌝ }
 {
     part[row.attractors] = place;
     row.attractors += 1;
@@ -65,6 +67,7 @@ fn append_representative<P: Copy>(
     requires { ⌜ length (now part) ≡ partSize (judged settings) ⌝ }
     ensures seen { λ _. ⌜ (now (row .entry) .representatives < representativeRoom (settings .k) → seenRow settings (now (row .exit)) (now (part .exit)) ≡ withRepresentatives (seenRow settings (now (row .entry)) (now (part .entry)) .representatives ++ (place ∷ [])) (seenRow settings (now (row .entry)) (now (part .entry)))) ⌝ }
     ensures within { λ _. ⌜ Within settings (now (row .exit)) ⌝ }
+    ensures radius { λ _. ⌜ now (row .exit) .radius ≡ now (row .entry) .radius ⌝ }
 {
     if row.representatives < 2 * settings.k + 2 {
         part[settings.k + 1 + row.representatives] = place;
@@ -78,6 +81,7 @@ fn clean_up<P: Copy>(row: &mut Row, part: &mut [Place<P>], settings: Settings)
     requires { ⌜ length (now part) ≡ partSize (judged settings) ⌝ }
     ensures seen { λ _. ⌜ seenRow settings (now (row .exit)) (now (part .exit)) ≡ rule.cleanUp (settings .k) (seenRow settings (now (row .entry)) (now (part .entry))) ⌝ }
     ensures within { λ _. ⌜ Within settings (now (row .exit)) ⌝ }
+    ensures radius { λ _. ⌜ now (row .exit) .radius ≡ now (row .entry) .radius ⌝ }
 {
     if row.attractors == settings.k + 1 {
         let since = Since {
@@ -112,6 +116,7 @@ fn attract<P: Copy>(
     requires { ⌜ length (now part) ≡ partSize (judged settings) ⌝ }
     ensures seen { λ _. ⌜ seenRow settings (now (row .exit)) (now (part .exit)) ≡ takes place attractor (seenRow settings (now (row .entry)) (now (part .entry))) ⌝ }
     ensures within { λ _. ⌜ Within settings (now (row .exit)) ⌝ }
+    ensures radius { λ _. ⌜ now (row .exit) .radius ≡ now (row .entry) .radius ⌝ }
 {
     let start = settings.k + 1;
     let i = first_in(part, start, row.representatives, &StandingFor { attractor });
@@ -126,7 +131,11 @@ fn stands<P>(row: &Row, part: &[Place<P>], settings: Settings, arrival: u32) -> 
     requires { ⌜ length (now part) ≡ partSize (judged settings) ⌝ }
     ensures { λ r. ⌜ r ≡ standsWith (settings .k) arrival (seenRow settings (now (row .entry)) (now (part .entry)) .attractors) ⌝ }
 {
-    if row.attractors == settings.k + 1 { part[0].arrival <= arrival } else { true }
+    if row.attractors == settings.k + 1 {
+        part[0].arrival <= arrival
+    } else {
+        true
+    }
 }
 
 /// A piece becomes an attractor, and its own representative. It is told what follows if that fits.
@@ -135,6 +144,7 @@ fn enrol<P: Copy>(row: &mut Row, part: &mut [Place<P>], settings: Settings, plac
     requires { ⌜ length (now part) ≡ partSize (judged settings) ⌝ }
     ensures seen { λ _. ⌜ (length (rule.cleanUp (settings .k) (rule.enrol (settings .k) place (seenRow settings (now (row .entry)) (now (part .entry)))) .representatives) ≤ representativeRoom (settings .k) → seenRow settings (now (row .exit)) (now (part .exit)) ≡ rule.cleanUp (settings .k) (rule.enrol (settings .k) place (seenRow settings (now (row .entry)) (now (part .entry))))) ⌝ }
     ensures within { λ _. ⌜ Within settings (now (row .exit)) ⌝ }
+    ensures radius { λ _. ⌜ now (row .exit) .radius ≡ now (row .entry) .radius ⌝ }
 {
     trim_attractors(row, part, settings);
     append_attractor(row, part, settings, place);
@@ -145,14 +155,25 @@ fn enrol<P: Copy>(row: &mut Row, part: &mut [Place<P>], settings: Settings, plac
 }
 
 /// The oldest attractor within twice the radius takes a piece; if there is none, it becomes one itself.
-pub fn settle<P: Copy, T: Tape<P>>(row: &mut Row, part: &mut [Place<P>], settings: Settings, tape: &T, place: Place<P>)
+pub fn settle<P: Copy, T: Tape<P>>(
+    row: &mut Row,
+    part: &mut [Place<P>],
+    settings: Settings,
+    tape: &T,
+    place: Place<P>,
+)
     requires { ⌜ Within settings (now row) ⌝ }
     requires { ⌜ length (now part) ≡ partSize (judged settings) ⌝ }
     requires { ⌜ now row .radius ≤ 1000000 ⌝ }
     ensures seen { λ _. ⌜ (length (rule.settle (T·Tape .dist (now (tape .entry))) (settings .k) place (seenRow settings (now (row .entry)) (now (part .entry))) .representatives) ≤ representativeRoom (settings .k) → seenRow settings (now (row .exit)) (now (part .exit)) ≡ rule.settle (T·Tape .dist (now (tape .entry))) (settings .k) place (seenRow settings (now (row .entry)) (now (part .entry)))) ⌝ }
     ensures within { λ _. ⌜ Within settings (now (row .exit)) ⌝ }
+    ensures radius { λ _. ⌜ now (row .exit) .radius ≡ now (row .entry) .radius ⌝ }
 {
-    let near = Near { tape, piece: &place.piece, radius: 2 * row.radius };
+    let near = Near {
+        tape,
+        piece: &place.piece,
+        radius: 2 * row.radius,
+    };
     let i = first_in(part, 0, row.attractors, &near);
     if i < row.attractors {
         let attractor = part[i].arrival;

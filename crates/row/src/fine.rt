@@ -26,6 +26,7 @@ fn make_room<P: Copy>(row: &mut Row, part: &mut [Place<P>], settings: Settings)
     requires { ⌜ length (now part) ≡ partSize (judged settings) ⌝ }
     ensures seen { λ _. ⌜ seenRow settings (now (row .exit)) (now (part .exit)) ≡ withFine (makeRoom (settings .limit) (seenRow settings (now (row .entry)) (now (part .entry)) .fine) (now (row .entry) .lost) .0) (makeRoom (settings .limit) (seenRow settings (now (row .entry)) (now (part .entry)) .fine) (now (row .entry) .lost) .1) (seenRow settings (now (row .entry)) (now (part .entry))) ⌝ }
     ensures within { λ _. ⌜ Within settings (now (row .exit)) ⌝ }
+    ensures radius { λ _. ⌜ now (row .exit) .radius ≡ now (row .entry) .radius ⌝ }
     ensures room { λ _. ⌜ now (row .exit) .entries < settings .limit ⌝ }
 {
     if row.entries == settings.limit {
@@ -35,7 +36,10 @@ fn make_room<P: Copy>(row: &mut Row, part: &mut [Place<P>], settings: Settings)
         let gone = part[latests + i];
         let _left = remove(part, firsts, row.entries, i);
         row.entries = remove(part, latests, row.entries, i);
-        row.lost = Some(Stamp { arrival: gone.arrival, day: gone.day });
+        row.lost = Some(Stamp {
+            arrival: gone.arrival,
+            day: gone.day,
+        });
     }
 }
 
@@ -46,6 +50,7 @@ fn append_entry<P: Copy>(row: &mut Row, part: &mut [Place<P>], settings: Setting
     requires { ⌜ now row .entries < settings .limit ⌝ }
     ensures seen { λ _. ⌜ seenRow settings (now (row .exit)) (now (part .exit)) ≡ withFine (seenRow settings (now (row .entry)) (now (part .entry)) .fine ++ (record { first = place; latest = place } ∷ [])) (now (row .entry) .lost) (seenRow settings (now (row .entry)) (now (part .entry))) ⌝ }
     ensures within { λ _. ⌜ Within settings (now (row .exit)) ⌝ }
+    ensures radius { λ _. ⌜ now (row .exit) .radius ≡ now (row .entry) .radius ⌝ }
 {
     let firsts = 3 * settings.k + 3;
     let latests = firsts + settings.limit;
@@ -55,15 +60,26 @@ fn append_entry<P: Copy>(row: &mut Row, part: &mut [Place<P>], settings: Setting
 }
 
 /// The first entry whose first piece is within the step takes a piece; if there is none, a new entry goes last.
-pub fn refine<P: Copy, T: Tape<P>>(row: &mut Row, part: &mut [Place<P>], settings: Settings, tape: &T, place: Place<P>)
+pub fn refine<P: Copy, T: Tape<P>>(
+    row: &mut Row,
+    part: &mut [Place<P>],
+    settings: Settings,
+    tape: &T,
+    place: Place<P>,
+)
     requires { ⌜ Within settings (now row) ⌝ }
     requires { ⌜ length (now part) ≡ partSize (judged settings) ⌝ }
     ensures seen { λ _. ⌜ seenRow settings (now (row .exit)) (now (part .exit)) ≡ rule.refine (T·Tape .dist (now (tape .entry))) (judged settings) place (seenRow settings (now (row .entry)) (now (part .entry))) ⌝ }
     ensures within { λ _. ⌜ Within settings (now (row .exit)) ⌝ }
+    ensures radius { λ _. ⌜ now (row .exit) .radius ≡ now (row .entry) .radius ⌝ }
 {
     let firsts = 3 * settings.k + 3;
     let latests = firsts + settings.limit;
-    let near = Near { tape, piece: &place.piece, radius: row.radius / settings.fineness };
+    let near = Near {
+        tape,
+        piece: &place.piece,
+        radius: row.radius / settings.fineness,
+    };
     let i = first_in(part, firsts, row.entries, &near);
     if i < row.entries {
         part[latests + i] = place;

@@ -10,3 +10,4 @@ mod step;
 pub use kept::Row;
 pub use settings::Settings;
 pub use step::expire;
+pub use step::post;

@@ -19,4 +19,5 @@ returns g c =
     record {
       seen = attractors-edited s row _ xs _ _ (between-set 0 (attractorRoom (s .k)) n xs x (omega arith) (omega arith)) (take-more-set xs n x (omega arith));
       within = (omega arith, w .1, w .2);
+      radius = refl;
     }

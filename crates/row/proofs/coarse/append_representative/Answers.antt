@@ -1,3 +1,4 @@
+use mathlib.Core.Path.{refl}
 use Prim.Native.Nat.{_+_}
 use native.Mathlib.Omega.{arith}
 use Rattle.packed.proofs.Betweens.{between-set}
@@ -23,4 +24,5 @@ returns-then-row-settings g c =
           (between-set (attractorRoom (s .k)) (firstsAt s) (s .k + 1 + n) xs x (omega arith) (omega arith))
           (cut-push (s .k + 1) n xs x (omega arith));
       within = (w .0, omega arith, w .2);
+      radius = refl;
     }

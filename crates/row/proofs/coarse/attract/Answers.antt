@@ -1,5 +1,5 @@
 use mathlib.Core.Bool.{Bool}
-use mathlib.Core.Path.{_≡_, ap, sym, _∙_}
+use mathlib.Core.Path.{_≡_, ap, sym, _∙_, refl}
 use Prim.Native.Nat.{_+_, _≤_}
 use native.Mathlib.Omega.{arith}
 use lib.Dec.{eqb}
@@ -35,9 +35,10 @@ returns-then-i-row g c =
       seen = representatives-edited s row n xs _ _ (w .0)
           (between-set (attractorRoom (s .k)) (firstsAt s) (s .k + 1 + i) xs z (omega arith) (omega arith))
           (cut-set (s .k + 1) n i xs z
-           ∙ ap (λ j. set (cut (s .k + 1) n xs) j z) (c .first-in-i .ensures)
-           ∙ change-set test change z (cut (s .k + 1) n xs) (λ y t. ap (λ m. standingFor m x) (eqb-true (y .attractor) a t) ∙ sym (c .standing-for .ensures)));
+          ∙ ap (λ j. set (cut (s .k + 1) n xs) j z) (c .first-in-i .ensures)
+          ∙ change-set test change z (cut (s .k + 1) n xs) (λ y t. ap (λ m. standingFor m x) (eqb-true (y .attractor) a t) ∙ sym (c .standing-for .ensures)));
       within = w;
+      radius = refl;
     }
 
 pub returns-else-i-row : need.returns-else-i-row
@@ -61,4 +62,5 @@ returns-else-i-row g c =
       seen = representatives-edited s row n xs xs _ (w .0) (between-same (attractorRoom (s .k)) (firstsAt s) xs)
           (change-none test change (cut (s .k + 1) n xs) none);
       within = w;
+      radius = refl;
     }

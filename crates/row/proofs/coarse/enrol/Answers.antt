@@ -29,6 +29,7 @@ returns-then-stands g c =
           (enlisted-by (s .k) x r0 r1 r2 r3 (c .trim-attractors .ensures .seen) (c .append-attractor .ensures .seen) (c .clean-up .ensures .seen))
           (c .if-stands .ensures tt) (c .standing-for .ensures) len (c .append-representative .ensures .seen);
       within = c .append-representative .ensures .within;
+      radius = c .append-representative .ensures .radius ∙ c .clean-up .ensures .radius ∙ c .append-attractor .ensures .radius ∙ c .trim-attractors .ensures .radius;
     }
 
 pub returns-else-stands : need.returns-else-stands
@@ -45,4 +46,5 @@ returns-else-stands g c =
           (enlisted-by (s .k) x r0 r1 r2 r3 (c .trim-attractors .ensures .seen) (c .append-attractor .ensures .seen) (c .clean-up .ensures .seen))
           (c .if-stands .ensures tt);
       within = c .clean-up .ensures .within;
+      radius = c .clean-up .ensures .radius ∙ c .append-attractor .ensures .radius ∙ c .trim-attractors .ensures .radius;
     }

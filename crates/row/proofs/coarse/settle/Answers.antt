@@ -31,7 +31,7 @@ returns-then-i-row g c =
     let long : length (cut 0 n xs) ≡ n = length-cut 0 n xs (omega arith) in
     let first : i ≡ firstAt test (cut 0 n xs) = c .first-in-i .ensures in
     let here : v ≡ getD (cut 0 n xs) (firstAt test (cut 0 n xs)) v =
-        c .index-part-i .is ∙ sym (getD-take n xs i v inside) ∙ ap (λ j. getD (cut 0 n xs) j v) first in
+    c .index-part-i .is ∙ sym (getD-take n xs i v inside) ∙ ap (λ j. getD (cut 0 n xs) j v) first in
     let taken : seenRow s (c .attract .last .row) (c .attract .last .part) ≡ takes x (getD xs i v .arrival) (seenRow s row xs) = c .attract .ensures .seen in
     let found = first-found test (cut 0 n xs) v (omega arith) here in
     record {
@@ -40,6 +40,7 @@ returns-then-i-row g c =
           ∙ ap (λ u. takes x (u .arrival) (seenRow s row xs)) (sym (c .index-part-i .is))
           ∙ ap (settleBy (s .k) x (seenRow s row xs)) (sym found);
       within = c .attract .ensures .within;
+      radius = c .attract .ensures .radius;
     }
 
 pub returns-else-i-row : need.returns-else-i-row
@@ -62,4 +63,5 @@ returns-else-i-row g c =
     record {
       seen = λ fits. c .enrol .ensures .seen (omega arith) ∙ is;
       within = c .enrol .ensures .within;
+      radius = c .enrol .ensures .radius;
     }

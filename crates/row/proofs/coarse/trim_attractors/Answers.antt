@@ -1,4 +1,4 @@
-use mathlib.Core.Path.{_≡_, _∙_}
+use mathlib.Core.Path.{_≡_, _∙_, refl}
 use Prim.Native.Nat.{_+_, suc}
 use native.Mathlib.Omega.{arith}
 use lib.ListN.{length}
@@ -29,4 +29,5 @@ returns-then-row-settings g c =
           (c .remove-row .ensures .removed ∙ trimmed (s .k) (cut 0 n xs) long);
       within = (omega arith, w .1, w .2);
       room = omega arith;
+      radius = refl;
     }

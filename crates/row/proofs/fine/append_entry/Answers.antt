@@ -1,3 +1,4 @@
+use mathlib.Core.Path.{refl}
 use Prim.Native.Nat.{_+_}
 use native.Mathlib.Omega.{arith}
 use lib.ListN.{set}
@@ -24,8 +25,9 @@ returns g c =
     record {
       seen = fine-edited s row _ (row .lost) end xs _ _ (w .0) (w .1)
           (between-then a end xs ys (set ys (b + n) x)
-           (between-set a end (a + n) xs x (omega arith) (omega arith))
-           (between-set a end (b + n) ys x (omega arith) (omega arith)))
+          (between-set a end (a + n) xs x (omega arith) (omega arith))
+          (between-set a end (b + n) ys x (omega arith) (omega arith)))
           (entries-appended a b n xs x (omega arith) (omega arith));
       within = (w .0, w .1, omega arith);
+      radius = refl;
     }

@@ -1,4 +1,4 @@
-use mathlib.Core.Path.{_≡_, sym, ap, _∙_}
+use mathlib.Core.Path.{_≡_, sym, ap, _∙_, refl}
 use Prim.Native.Nat.{_+_}
 use native.Mathlib.Omega.{arith}
 use lib.ListN.{length, getD}
@@ -34,8 +34,8 @@ returns-then-row-settings g c =
     let one : Between a end xs ys = between-wider a (a + n) a end xs ys (omega arith) (omega arith) (c .remove-left .ensures .between) in
     let two : Between a end ys zs = between-wider b end a end ys zs (omega arith) (omega arith) (c .remove-row .ensures .between) in
     let left =
-        entries-gone a b n (c .remove-left .result) (c .remove-row .result) i xs ys zs (omega arith) (omega arith) (c .remove-left .ensures .fewer) fewer
-        (c .remove-left .ensures .removed) (c .remove-left .ensures .between) (c .remove-row .ensures .removed) (c .remove-row .ensures .between) in
+    entries-gone a b n (c .remove-left .result) (c .remove-row .result) i xs ys zs (omega arith) (omega arith) (c .remove-left .ensures .fewer) fewer
+    (c .remove-left .ensures .removed) (c .remove-left .ensures .between) (c .remove-row .ensures .removed) (c .remove-row .ensures .between) in
     let la : length (cut a n xs) ≡ n = length-cut a n xs (omega arith) in
     let lb : length (cut b n xs) ≡ n = length-cut b n xs (omega arith) in
     let here : u ≡ getD (cut b n xs) i u = c .index-part-latests .is ∙ sym (getD-cut b n i xs u inside) in
@@ -46,6 +46,7 @@ returns-then-row-settings g c =
           ∙ ap (λ p. withFine (p .0) (p .1) (seenRow s row xs)) (sym made);
       within = (w .0, w .1, omega arith);
       room = omega arith;
+      radius = refl;
     }
 
 pub returns-else-row-settings : need.returns-else-row-settings
@@ -68,4 +69,5 @@ returns-else-row-settings g c =
       seen = ap (λ p. withFine (p .0) (p .1) (seenRow s row xs)) (sym there);
       within = w;
       room = omega arith;
+      radius = refl;
     }

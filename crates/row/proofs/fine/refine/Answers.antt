@@ -1,6 +1,6 @@
 use mathlib.Core.Bool.{Bool}
 use mathlib.Core.List.{[], _∷_, _++_}
-use mathlib.Core.Path.{_≡_, sym, ap, _∙_}
+use mathlib.Core.Path.{_≡_, sym, ap, _∙_, refl}
 use Prim.Native.Nat.{_+_, _/_, _≤_}
 use native.Mathlib.Omega.{arith}
 use Rattle.packed.specs.Lists.{cut, firstAt}
@@ -39,6 +39,7 @@ returns-then-i-row g c =
           (entries-taken test a b n i xs x (omega arith) (omega arith) inside first)
           ∙ ap (refineBy dist (s .limit) gap x (seenRow s row xs)) (sym (found .1));
       within = w;
+      radius = refl;
     }
 
 pub returns-else-i-row : need.returns-else-i-row
@@ -67,4 +68,5 @@ returns-else-i-row g c =
           ∙ ap (λ r. withFine (r .fine ++ (record { first = x; latest = x } ∷ [])) (r .lost) r) (c .make-room .ensures .seen)
           ∙ ap (refineBy dist (s .limit) gap x r0) (sym missing);
       within = c .append-entry .ensures .within;
+      radius = c .append-entry .ensures .radius ∙ c .make-room .ensures .radius;
     }
