@@ -4,7 +4,12 @@
 
 ghost use mathlib.Core.Path.{_≡_};
 ghost use Rattle.refusal.specs.Codes.{code, depth};
+pub use fault::Fault;
+pub use fault::FaultDisplay;
+pub use fault::located;
 use std::fmt;
+
+pub mod fault;
 
 /// Where a table breaks a law: at entry (`row`, `column`), and, where the entry exceeds the way round
 /// through a third grade, that grade.
