@@ -17,10 +17,10 @@ abbrev pub locatedAt : {X : Type 0} → ℕ → Result X Refusal → Result X Fa
 locatedAt at (Ok x) = Ok x
 locatedAt at (Err why) = Err (refusedAt why at)
 
--- one step after another: the first fault is the answer, and nothing on the way changes it
-abbrev pub andThen : {X Y : Type 0} → Result X Fault → (X → Result Y Fault) → Result Y Fault
+-- one step after another: the first error is the answer, and nothing on the way changes it
+abbrev pub andThen : {X Y E : Type 0} → Result X E → (X → Result Y E) → Result Y E
 andThen (Ok x) next = next x
-andThen (Err fault) next = Err fault
+andThen (Err e) next = Err e
 
 -- the text that users see
 abbrev pub faultText : Fault → List ℕ
