@@ -1,6 +1,7 @@
 //! What a command's first byte tells.
 
 ghost use mathlib.Core.Path.{_≡_};
+ghost use Prim.Native.Nat.{_<_, _≤_};
 ghost use Rattle.std.specs.Options.{Cases};
 ghost use Rattle.command.specs.Verbs.{letter, width};
 
@@ -50,7 +51,8 @@ impl Verb {
 
     /// How many bytes a command with this verb has, the first among them.
     pub fn width(self) -> usize
-        ensures { λ r. ⌜ r ≡ width self ⌝ }
+        ensures is { λ r. ⌜ r ≡ width self ⌝ }
+        ensures bound { λ r. ⌜ (0 < r) × (r ≤ 37) ⌝ }
     {
         match self {
             Verb::Settings => 10,

@@ -36,7 +36,11 @@ fn digit_byte(digit: u8) -> u8
     requires { ⌜ digit < 16 ⌝ }
     ensures { λ r. ⌜ r ≡ glyph true digit ⌝ }
 {
-    if digit < 10 { b'0' + digit } else { b'7' + digit }
+    if digit < 10 {
+        b'0' + digit
+    } else {
+        b'7' + digit
+    }
 }
 
 fn put_decimal(out: &mut [u8], at: usize, n: u32) -> usize

@@ -3,5 +3,5 @@
 pub mod digits;
 pub mod text;
 
-pub use text::LONGEST_TEXT;
+pub use text::LINE_ROOM;
 pub use text::put_text;

@@ -11,12 +11,12 @@ use crate::digits::put_number;
 use crate::digits::put_offset;
 use command::Command;
 
-/// No command's text is longer.
-pub const LONGEST_TEXT: usize = 112;
+/// Room for any command's text, and a line feed after it.
+pub const LINE_ROOM: usize = 112;
 
 /// Puts the command's text at the front of `out` and answers how long it is. The rest of the list stays.
-pub fn put_text(command: &Command, out: &mut [u8; 112]) -> usize
-    ensures inside { λ r. ⌜ r ≤ 112 ⌝ }
+pub fn put_text(command: &Command, out: &mut [u8; LINE_ROOM]) -> usize
+    ensures inside { λ r. ⌜ r ≤ 111 ⌝ }
     ensures front { λ r. ⌜ take r (now (out .exit)) ≡ textOf (now (command .entry)) ⌝ }
     ensures back { λ r. ⌜ drop r (now (out .exit)) ≡ drop r (now (out .entry)) ⌝ }
 {

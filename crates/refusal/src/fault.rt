@@ -8,6 +8,7 @@ use crate::Layer;
 use crate::Refusal;
 use crate::RefusalDebug;
 use crate::RefusalPartialEq;
+use std::error::Error;
 use std::fmt;
 
 /// Why a command of a feed was refused, and the offset of the command's first byte. It keeps the refusal
@@ -67,3 +68,5 @@ pub impl fmt::Display for Fault as FaultDisplay {
         write!(f, "refused {number} layer {layer} at {offset}")
     }
 }
+
+pub impl Error for Fault as FaultError {}

@@ -5,7 +5,10 @@
 ghost use mathlib.Core.Path.{_≡_};
 ghost use Rattle.refusal.specs.Codes.{code, depth};
 pub use fault::Fault;
+pub use fault::FaultDebug;
 pub use fault::FaultDisplay;
+pub use fault::FaultError;
+pub use fault::FaultPartialEq;
 pub use fault::located;
 use std::fmt;
 

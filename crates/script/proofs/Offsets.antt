@@ -46,8 +46,8 @@ pub offsets-fail : (n : ℕ) (xs : List ℕ) (at from : ℕ) (zs : List ℤ) (e 
     → offsetsAt n xs at ≡ Ok (zs, from) → offsetAt xs from ≡ Err e → offsetsAt 8 xs at ≡ Err e
 offsets-fail n xs at from zs e h before here =
     let first : offsetsAt (suc n) xs at ≡ Err e =
-        step n xs at
-        ∙ ap (λ r. andThen r (λ p. andThen (offsetAt xs (p .1)) (λ q. Ok (p .0 ++ q .0 ∷ [], q .1)))) before
-        ∙ ap (λ r. andThen r (λ q. Ok (zs ++ q .0 ∷ [], q .1))) here in
+    step n xs at
+    ∙ ap (λ r. andThen r (λ p. andThen (offsetAt xs (p .1)) (λ q. Ok (p .0 ++ q .0 ∷ [], q .1)))) before
+    ∙ ap (λ r. andThen r (λ q. Ok (zs ++ q .0 ∷ [], q .1))) here in
     let all : 8 ≡ suc n + (8 - suc n) = omega arith in
     ap (λ m. offsetsAt m xs at) all ∙ after (8 - suc n) (suc n) xs at e first

@@ -49,7 +49,8 @@ pub(crate) fn run_end(text: &[u8], at: usize, run: Run) -> usize
 
 /// Where the line that begins at `at` ends: at the next line feed, or with the text.
 pub fn line_end(text: &[u8], at: usize) -> usize
-    ensures { λ r. ⌜ r ≡ at + leading (within Run.Line) (drop at (now (text .entry))) ⌝ }
+    ensures is { λ r. ⌜ r ≡ at + leading (within Run.Line) (drop at (now (text .entry))) ⌝ }
+    ensures inside { λ r. ⌜ (at ≤ r) × (at ≤ length (now (text .entry)) → r ≤ length (now (text .entry))) ⌝ }
 {
     if at > text.len() {
         return at;

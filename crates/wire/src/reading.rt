@@ -1,8 +1,9 @@
 //! Commands from bytes.
 
 ghost use mathlib.Core.Path.{_≡_};
-ghost use Prim.Native.Nat.{_+_, _≤_};
+ghost use Prim.Native.Nat.{_+_, _<_, _≤_};
 ghost use lib.ListN.{length, getD, take, drop};
+ghost use Rattle.std.specs.Vec.{made};
 ghost use Rattle.command.specs.Bytes.{be32, be64, be32z, be32zs};
 ghost use Rattle.command.specs.Verbs.{letter, width};
 ghost use Rattle.command.specs.Commands.{bytesOf, verbOf};
@@ -17,12 +18,14 @@ use refusal::Refusal;
 pub fn read(bytes: &[u8], at: usize) -> Result<(Command, usize), Fault>
     ensures answer { λ r. ⌜ Reads (now (bytes .entry)) at r ⌝ }
     ensures exact { λ r. ⌜ Answers (now (bytes .entry)) at r ⌝ }
+    ensures inside { λ r. ⌜ made r (λ p. (0 < p .1) × (at + p .1 ≤ length (now (bytes .entry)))) ⌝ }
 {
     read_one(bytes, at)
 }
 
 fn read_one(bytes: &[u8], at: usize) -> Result<(Command, usize), Fault>
-    ensures { λ r. ⌜ Reads (now (bytes .entry)) at r ⌝ }
+    ensures answer { λ r. ⌜ Reads (now (bytes .entry)) at r ⌝ }
+    ensures inside { λ r. ⌜ made r (λ p. (0 < p .1) × (at + p .1 ≤ length (now (bytes .entry)))) ⌝ }
 {
     if at >= bytes.len() {
         return Err(Refusal::CutShort.at(at));

@@ -5,6 +5,7 @@ ghost use mathlib.Core.Bool.{cond};
 ghost use mathlib.Core.List.{_++_, _∷_};
 ghost use Prim.Native.Nat.{ℕ, _+_, _≤_};
 ghost use lib.ListN.{length, take, drop};
+ghost use Rattle.std.specs.Vec.{made};
 ghost use Rattle.command.specs.Bytes.{be32, be64, be32z, be32zs};
 ghost use Rattle.command.specs.Commands.{bytesOf, sizeOf};
 ghost use Rattle.wire.specs.Wire.{roomFor, ifRoom, withFront};
@@ -17,6 +18,7 @@ use refusal::Refusal;
 pub fn write(command: &Command, out: &mut [u8]) -> Result<usize, Fault>
     ensures answer { λ r. ⌜ r ≡ ifRoom (roomFor (now (command .entry)) (now (out .entry))) (sizeOf (now (command .entry))) ⌝ }
     ensures list { λ _. ⌜ now (out .exit) ≡ cond (roomFor (now (command .entry)) (now (out .entry))) (withFront (now (command .entry)) (now (out .entry))) (now (out .entry)) ⌝ }
+    ensures inside { λ r. ⌜ made r (λ n. n ≤ length (now (out .exit))) ⌝ }
 {
     let size = command.size();
     if out.len() < size {

@@ -19,9 +19,10 @@ returns-then-n-lt10 t c =
     let one = decimal-one (c .args .n) (c .if-n-lt10 .taken) in
     let len = length-one (c .args .n) (c .if-n-lt10 .taken) in
     record {
-        end = omega arith;
-        front = c .put-digit .ensures .front ∙ ap (λ xs. take (c .args .at) (c .args .out .now) ++ xs) (sym one);
-        back = c .put-digit .ensures .back }
+      end = omega arith;
+      front = c .put-digit .ensures .front ∙ ap (λ xs. take (c .args .at) (c .args .out .now) ++ xs) (sym one);
+      back = c .put-digit .ensures .back;
+    }
 
 pub put-decimal-last-requires : need.put-decimal-last-requires
 put-decimal-last-requires t c κs =
@@ -43,8 +44,9 @@ returns t c =
     let len = length-more n (c .if-n-lt10 .left) fits in
     let end = c .put-decimal-last .ensures .end in
     record {
-        end = omega arith;
-        front = c .put-digit-2 .ensures .front
-            ∙ join (take (c .args .at) (c .args .out .now)) (take (c .put-decimal-last .result) (c .put-decimal-last .last .out)) (decimal (n / 10)) (decimal n) (glyph true (n % 10))
-                (c .put-decimal-last .ensures .front) (decimal-more n (c .if-n-lt10 .left) fits);
-        back = λ k h. c .put-digit-2 .ensures .back k h ∙ c .put-decimal-last .ensures .back k (omega arith) }
+      end = omega arith;
+      front = c .put-digit-2 .ensures .front
+          ∙ join (take (c .args .at) (c .args .out .now)) (take (c .put-decimal-last .result) (c .put-decimal-last .last .out)) (decimal (n / 10)) (decimal n) (glyph true (n % 10))
+          (c .put-decimal-last .ensures .front) (decimal-more n (c .if-n-lt10 .left) fits);
+      back = λ k h. c .put-digit-2 .ensures .back k h ∙ c .put-decimal-last .ensures .back k (omega arith);
+    }

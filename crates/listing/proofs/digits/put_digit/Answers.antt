@@ -10,6 +10,7 @@ returns c =
     let out = c .args .out .now in
     let at = c .args .at in
     record {
-        end = refl;
-        front = take-more-set out at (c .digit-byte .result) (c .pre .0) ∙ ap (λ b. take at out ++ (b ∷ [])) (c .digit-byte .ensures);
-        back = λ k h. drop-set-lt k out at (c .digit-byte .result) (omega arith) }
+      end = refl;
+      front = take-more-set out at (c .digit-byte .result) (c .pre .0) ∙ ap (λ b. take at out ++ (b ∷ [])) (c .digit-byte .ensures);
+      back = λ k h. drop-set-lt k out at (c .digit-byte .result) (omega arith);
+    }

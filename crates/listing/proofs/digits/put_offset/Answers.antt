@@ -18,9 +18,10 @@ returns-then-x-lt0 c =
     let end = c .put-number .ensures .end in
     let bound = c .put-number .ensures .bound in
     record {
-        end = omega arith;
-        bound = omega arith;
-        front = c .put-number .ensures .front
-            ∙ minus-front (take (c .args .at) (c .args .out .now)) (take (c .put-digits .result) (c .put-digits .last .out)) z (c .unsigned-abs .result) below size
-                (c .put-digits .ensures .front);
-        back = λ k h. c .put-number .ensures .back k h ∙ c .put-digits .ensures .back k (omega arith) }
+      end = omega arith;
+      bound = omega arith;
+      front = c .put-number .ensures .front
+          ∙ minus-front (take (c .args .at) (c .args .out .now)) (take (c .put-digits .result) (c .put-digits .last .out)) z (c .unsigned-abs .result) below size
+          (c .put-digits .ensures .front);
+      back = λ k h. c .put-number .ensures .back k h ∙ c .put-digits .ensures .back k (omega arith);
+    }

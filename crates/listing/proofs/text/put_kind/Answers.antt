@@ -20,8 +20,9 @@ returns-in-rest c =
     let bound = c .put-number .ensures .bound in
     let low = c .put-number .ensures .end in
     record {
-        bound = (omega arith, omega arith);
-        front = then-text bs (take (c .put-at .result) (c .put-at .last .out)) (take (c .put-number .result) (c .put-number .last .out)) (codes "kind ") (decimal (c .from .result))
-                (c .put-at .ensures .front) (c .put-number .ensures .front)
-            ∙ ap (λ n. bs ++ (codes "kind " ++ decimal n)) value ∙ ap (λ t. bs ++ t) (kind-rest kind a b);
-        back = λ k h. c .put-number .ensures .back k h ∙ c .put-at .ensures .back k (omega arith) }
+      bound = (omega arith, omega arith);
+      front = then-text bs (take (c .put-at .result) (c .put-at .last .out)) (take (c .put-number .result) (c .put-number .last .out)) (codes "kind ") (decimal (c .from .result))
+          (c .put-at .ensures .front) (c .put-number .ensures .front)
+          ∙ ap (λ n. bs ++ (codes "kind " ++ decimal n)) value ∙ ap (λ t. bs ++ t) (kind-rest kind a b);
+      back = λ k h. c .put-number .ensures .back k h ∙ c .put-at .ensures .back k (omega arith);
+    }

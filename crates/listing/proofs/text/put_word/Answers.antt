@@ -14,8 +14,9 @@ returns c =
     let end = c .put-hex .ensures .end in
     let few = c .hex-width .ensures .bound in
     record {
-        bound = (omega arith, omega arith);
-        front = then-text bs (take (c .put-digits .result) (c .put-digits .last .out)) (take (c .put-hex .result) (c .put-hex .last .out)) (codes " 0x") (hexDigits (c .hex-width .result) (c .args .word))
-                (c .put-digits .ensures .front) (c .put-hex .ensures .front)
-            ∙ ap (λ n. bs ++ (codes " 0x" ++ hexDigits n (c .args .word))) (c .hex-width .ensures .is);
-        back = λ k h. c .put-hex .ensures .back k h ∙ c .put-digits .ensures .back k (omega arith) }
+      bound = (omega arith, omega arith);
+      front = then-text bs (take (c .put-digits .result) (c .put-digits .last .out)) (take (c .put-hex .result) (c .put-hex .last .out)) (codes " 0x") (hexDigits (c .hex-width .result) (c .args .word))
+          (c .put-digits .ensures .front) (c .put-hex .ensures .front)
+          ∙ ap (λ n. bs ++ (codes " 0x" ++ hexDigits n (c .args .word))) (c .hex-width .ensures .is);
+      back = λ k h. c .put-hex .ensures .back k h ∙ c .put-digits .ensures .back k (omega arith);
+    }

@@ -11,4 +11,4 @@ pub returns-then-at-text : need.returns-then-at-text
 returns-then-at-text c =
     let past : length (c .args .text .now) ≤ c .args .at = omega arith in
     let none = leading-drop-all (within Line) (c .args .text .now) (c .args .at) past in
-    omega arith
+    record { is = omega arith; inside = (omega arith, λ h. omega arith) }

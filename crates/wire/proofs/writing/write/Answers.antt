@@ -17,4 +17,5 @@ returns c =
     record {
       answer = ap Ok (c .size-size .ensures) ∙ ap (λ b. ifRoom b (sizeOf command)) (sym (room command was enough));
       list = fronted command was (c .put-command .last .out) enough (c .put-command .ensures .front) (c .put-command .ensures .back);
+      inside = omega arith;
     }
