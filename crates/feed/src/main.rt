@@ -1,5 +1,7 @@
 //! Makes feeds from text, and text from feeds.
 
+ghost use mathlib.Core.Path.{_≡_};
+ghost use Rattle.feed.specs.Jobs.{plainJob, optionJob};
 use command::LONGEST;
 use listing::LINE_ROOM;
 use listing::put_text;
@@ -66,8 +68,10 @@ fn asked(rt: &LibcRuntime) -> io::Result<Option<Job>> {
     }
 }
 
-fn plain(first: &str) -> Option<Job> {
-    match first {
+fn plain(word: &str) -> Option<Job>
+    ensures { λ r. ⌜ r ≡ plainJob (now (word .entry)) ⌝ }
+{
+    match word {
         "write" => Some(Job::Write),
         "read" => Some(Job::Read { offsets: false }),
         "--help" => Some(Job::Help),
@@ -75,11 +79,12 @@ fn plain(first: &str) -> Option<Job> {
     }
 }
 
-fn with_option(first: &str, option: &str) -> Option<Job> {
-    if first == "read" && option == "--offsets" {
-        Some(Job::Read { offsets: true })
-    } else {
-        None
+fn with_option(word: &str, option: &str) -> Option<Job>
+    ensures { λ r. ⌜ r ≡ optionJob (now (word .entry)) (now (option .entry)) ⌝ }
+{
+    match (word, option) {
+        ("read", "--offsets") => Some(Job::Read { offsets: true }),
+        _ => None,
     }
 }
 

@@ -1,6 +1,6 @@
 //! The text of a command, as one writes it by hand.
 
-pub mod digits;
+mod digits;
 pub mod text;
 
 pub use text::LINE_ROOM;
