@@ -8,3 +8,12 @@ pub mod Attracting
 pub mod Enrolling
 pub mod Refining
 pub mod Entering
+pub mod Windows
+pub mod Trials
+pub mod Standing
+pub mod Picks
+pub mod Reasons
+pub mod Stages
+pub mod Room
+pub mod Refusing
+pub mod Upheld

@@ -26,35 +26,50 @@ abbrev pub SettingsRule : Settings → Result Settings Refusal → Type 0
 SettingsRule s r = MadeIf (Judged s) (λ t. t ≡ s) SettingOutOfRange r
 
 -- A book begins with the radius 0 alone.
-abbrev pub BeginRule : Settings → Setup → Type 0
-BeginRule s u = u ≡ record { settings = s; radii = 0 ∷ [] }
+abbrev pub beginning : Settings → Setup
+beginning s = record { settings = s; radii = 0 ∷ [] }
 
--- A further radius.
-abbrev pub whyNotRadius : Setup → ℕ → Option Refusal
-whyNotRadius u g = firstReason (
+abbrev pub BeginRule : Settings → Setup → Type 0
+BeginRule s u = u ≡ beginning s
+
+-- A further radius. The refusals of each call stand in the order in which they are tested.
+abbrev pub radiusTests : Setup → ℕ → List (Bool × Refusal)
+radiusTests u g =
     (leb mostRadii (length (u .radii)), RadiusListFull)
     ∷ (not (allowed (lastOf 0 (u .radii)) g && leb g greatestRadius), RadiusNotAllowed)
-    ∷ [])
+    ∷ []
+
+abbrev pub whyNotRadius : Setup → ℕ → Option Refusal
+whyNotRadius u g = firstReason (radiusTests u g)
+
+abbrev pub withRadius : Setup → ℕ → Setup
+withRadius u g = record { settings = u .settings; radii = u .radii ++ (g ∷ []) }
 
 pub record RadiusRule (u : Setup) (g : ℕ) (r : Result (Unit {0}) Refusal) (u′ : Setup) : Type 0 where
   pub answer : r ≡ after (whyNotRadius u g) (Ok tt)
-  pub left : u′ ≡ leaves (whyNotRadius u g) u (record { settings = u .settings; radii = u .radii ++ (g ∷ []) })
+  pub left : u′ ≡ leaves (whyNotRadius u g) u (withRadius u g)
 
 -- Opening cannot refuse. The shelf may have any number of places and hold anything.
+abbrev pub opening : {P : Type 0} → Setup → ℕ → View P
+opening u places = record { settings = u .settings; rows = map bare (u .radii); posts = 0; day = 0; places = places }
+
 abbrev pub OpenRule : {P : Type 0} → Setup → ℕ → View P → Type 0
-OpenRule u places b = b ≡ record { settings = u .settings; rows = map bare (u .radii); posts = 0; day = 0; places = places }
+OpenRule u places b = b ≡ opening u places
 
 -- the shelf is too short for the book
 abbrev pub short : {P : Type 0} → View P → Bool
 short b = ltb (b .places) (needed (b .settings) (length (b .rows)))
 
 -- A post of a piece on a day.
-abbrev pub whyNotPost : {P : Type 0} → View P → ℕ → Option Refusal
-whyNotPost b d = firstReason (
+abbrev pub postTests : {P : Type 0} → View P → ℕ → List (Bool × Refusal)
+postTests b d =
     (short b, ShelfTooShort)
     ∷ (leb mostPosts (b .posts), PostsUsedUp)
     ∷ (badDay (b .day) d, DayNotAllowed)
-    ∷ [])
+    ∷ []
+
+abbrev pub whyNotPost : {P : Type 0} → View P → ℕ → Option Refusal
+whyNotPost b d = firstReason (postTests b d)
 
 -- the place that holds the next piece
 abbrev pub arriving : {P : Type 0} → View P → P → ℕ → Place P
@@ -74,8 +89,11 @@ pub record PostRule {P : Type 0} (dist : Distance P) (counts : Rule) (b : View P
   pub left : b′ ≡ leaves (whyNotPost b d) b (posted dist counts p d b)
 
 -- A turn of the day.
+abbrev pub turnTests : {P : Type 0} → View P → ℕ → List (Bool × Refusal)
+turnTests b d = (short b, ShelfTooShort) ∷ (badDay (b .day) d, DayNotAllowed) ∷ []
+
 abbrev pub whyNotTurn : {P : Type 0} → View P → ℕ → Option Refusal
-whyNotTurn b d = firstReason ((short b, ShelfTooShort) ∷ (badDay (b .day) d, DayNotAllowed) ∷ [])
+whyNotTurn b d = firstReason (turnTests b d)
 
 abbrev pub turned : {P : Type 0} → Rule → ℕ → View P → View P
 turned counts d b = record {
@@ -112,8 +130,11 @@ abbrev pub shelved : {P : Type 0} → View P → List (ℕ × Place P)
 shelved b = lyingFrom (b .settings) 0 (b .rows)
 
 -- Find and hand out are refused for a short shelf alone, besides what is not there.
+abbrev pub seekTests : {P : Type 0} → View P → List (Bool × Refusal)
+seekTests b = (short b, ShelfTooShort) ∷ []
+
 abbrev pub whyNotSeek : {P : Type 0} → View P → Option Refusal
-whyNotSeek b = firstReason ((short b, ShelfTooShort) ∷ [])
+whyNotSeek b = firstReason (seekTests b)
 
 -- the place of the first that passes, and its piece
 abbrev pub placeOf : {P : Type 0} → Option (ℕ × Place P) → Option ℕ
@@ -138,12 +159,15 @@ nothingIn [] = true
 nothingIn (row ∷ rows) = isEmpty (row .representatives)
 
 -- A pick, with an answer list and a work list.
-abbrev pub whyNotPick : {P : Type 0} → View P → List ℕ → List ℕ → Option Refusal
-whyNotPick b answers work = firstReason (
+abbrev pub pickTests : {P : Type 0} → View P → List ℕ → List ℕ → List (Bool × Refusal)
+pickTests b answers work =
     (short b, ShelfTooShort)
     ∷ (ltb (length answers) (b .settings .k) || ltb (length work) (workNeeded (b .settings)), ListTooShort)
     ∷ (nothingIn (b .rows), NothingCounts)
-    ∷ [])
+    ∷ []
+
+abbrev pub whyNotPick : {P : Type 0} → View P → List ℕ → List ℕ → Option Refusal
+whyNotPick b answers work = firstReason (pickTests b answers work)
 
 abbrev pub pick : {P : Type 0} → Distance P → Rule → View P → List ℕ → List ℕ → Result (Pick P) Refusal
 pick dist counts b answers work = after (whyNotPick b answers work) (pickFrom dist counts b (taken dist b))

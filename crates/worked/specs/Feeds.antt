@@ -1,13 +1,13 @@
 -- Books of hull panels under the hull tape and the term of the last three pieces, posted to on day 1.
 use mathlib.Core.Path.{_≡_}
-use mathlib.Core.List.{List, [], _∷_, _++_, map}
+use mathlib.Core.List.{List, [], _∷_}
 use Prim.Native.Nat.{ℕ, min}
 use lib.IntN.{pos}
 use lib.ListN.{replicate}
 use Rattle.std.specs.declared.result.Result.{Result}
 use Rattle.refusal.specs.declared.Refusal.{Refusal}
-use Rattle.rules.specs.Calls.{whyNotRadius, whyNotPost, posted, PickRule}
-use Rattle.rules.specs.Steps.{Distance, bare}
+use Rattle.rules.specs.Calls.{beginning, whyNotRadius, withRadius, opening, whyNotPost, posted, PickRule}
+use Rattle.rules.specs.Steps.{Distance}
 use Rattle.rules.specs.Views.{Settings, Setup, View}
 use Rattle.rules.specs.Words.{leaves}
 use Rattle.rules.specs.declared.picked.Picked.{Picked}
@@ -35,22 +35,19 @@ oneCentre fineLimit = record { k = 1; f = 2; fineLimit = fineLimit }
 -- a book that is being set up, with further radii entered
 abbrev pub entered : List ℕ → Setup → Setup
 entered [] u = u
-entered (g ∷ gs) u = entered gs (leaves (whyNotRadius u g) u (record { settings = u .settings; radii = u .radii ++ (g ∷ []) }))
+entered (g ∷ gs) u = entered gs (leaves (whyNotRadius u g) u (withRadius u g))
 
 abbrev pub setUp : ℕ → Setup
-setUp fineLimit = entered (1 ∷ 2 ∷ 4 ∷ []) (record { settings = oneCentre fineLimit; radii = 0 ∷ [] })
-
--- the open book, with a shelf of 56 places
-abbrev pub opened : Setup → View Panel
-opened u = record { settings = u .settings; rows = map bare (u .radii); posts = 0; day = 0; places = 56 }
+setUp fineLimit = entered (1 ∷ 2 ∷ 4 ∷ []) (beginning (oneCentre fineLimit))
 
 -- panels of such offsets posted one after another
 abbrev pub fed : List ℕ → View Panel → View Panel
 fed [] b = b
 fed (n ∷ ns) b = fed ns (leaves (whyNotPost b 1) b (posted hull lastThree (panel n) 1 b))
 
+-- the book opened, with a shelf of 56 places, and so posted to
 abbrev pub book : ℕ → List ℕ → View Panel
-book fineLimit ns = fed ns (opened (setUp fineLimit))
+book fineLimit ns = fed ns (opening (setUp fineLimit) 56)
 
 -- A pick from that book, lent the answer list 7, 9, answers r and leaves the answer list as `left`.
 abbrev pub Picks : ℕ → List ℕ → Result Picked Refusal → List ℕ → Type 0
