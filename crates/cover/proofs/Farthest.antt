@@ -15,24 +15,24 @@ use Rattle.std.proofs.shelf.Ways.{eqb-tells}
 use Rattle.cover.proofs.Nearest.{nearest-least, nearest-push, covers-reach, greatest-falls, greatest-place}
 use Rattle.cover.proofs.Pigeons.{pigeons}
 use Rattle.cover.specs.Choices.{FarthestFirst, Good, nearest, greatest, greatestAt, reach, onward, farthestFirst}
-use Rattle.cover.specs.Distances.{Metric, Near, Covers, Spaced}
+use Rattle.cover.specs.Distances.{Distance, Metric, Near, Covers, Spaced}
 
-pub spaced-less : {P : Type 0} (dist : P → P → ℕ) (d e : ℕ) → d ≤ e → (xs : List P) → Spaced dist e xs → Spaced dist d xs
+pub spaced-less : {P : Type 0} (dist : Distance P) (d e : ℕ) → d ≤ e → (xs : List P) → Spaced dist e xs → Spaced dist d xs
 spaced-less dist d e h [] s = tt
 spaced-less dist d e h (x ∷ xs) s =
     (all-weaker (λ y. e ≤ dist x y) (λ y. d ≤ dist x y) (λ y k. omega arith) xs (s .0), spaced-less dist d e h xs (s .1))
 
-pub spaced-push : {P : Type 0} (dist : P → P → ℕ) (e : ℕ) (xs : List P) (y : P) → Spaced dist e xs → All (λ x. e ≤ dist x y) xs → Spaced dist e (xs ++ (y ∷ []))
+pub spaced-push : {P : Type 0} (dist : Distance P) (e : ℕ) (xs : List P) (y : P) → Spaced dist e xs → All (λ x. e ≤ dist x y) xs → Spaced dist e (xs ++ (y ∷ []))
 spaced-push dist e [] y s h = (tt, tt)
 spaced-push dist e (x ∷ xs) y s h = (all-push (λ z. e ≤ dist x z) xs y (s .0) (h .0), spaced-push dist e xs y (s .1) (h .1))
 
 -- The centres c ∷ cs, chosen from xs so far: they are as far apart as they reach.
-record Going {P : Type 0} (dist : P → P → ℕ) (xs cs : List P) : Type 0 where
+record Going {P : Type 0} (dist : Distance P) (xs cs : List P) : Type 0 where
   some : 1 ≤ length cs
   members : All (Has xs) cs
   spaced : Spaced dist (reach dist cs xs) cs
 
-module _ {P : Type 0} (dist : P → P → ℕ) (m : Metric dist) (x : P) (xs : List P) (full : 1 ≤ length xs) where
+module _ {P : Type 0} (dist : Distance P) (m : Metric dist) (x : P) (xs : List P) (full : 1 ≤ length xs) where
   next : List P → P
   next cs = getD xs (greatestAt (nearest dist cs) xs) x
 

@@ -11,9 +11,9 @@ use Rattle.std.specs.shelf.Lists.{All}
 use Rattle.std.proofs.shelf.Ways.{leb-tells, tells}
 use Rattle.std.proofs.shelf.Tests.{cases-lt}
 use Rattle.cover.specs.Choices.{nearest, greatest, greatestAt, reach}
-use Rattle.cover.specs.Distances.{Near, Covers, Spaced}
+use Rattle.cover.specs.Distances.{Distance, Near, Covers, Spaced}
 
-module _ {P : Type 0} (dist : P → P → ℕ) where
+module _ {P : Type 0} (dist : Distance P) where
   -- within r of the nearest is within r of one
   pub near-nearest : (c : P) (cs : List P) (x : P) (r : ℕ) → nearest dist (c ∷ cs) x ≤ r → Near dist r (c ∷ cs) x
   near-nearest c [] x r h = inl h

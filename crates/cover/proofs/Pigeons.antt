@@ -7,17 +7,17 @@ use Prim.Native.Nat.{ℕ, suc, _+_, _*_, _<_, _≤_}
 use lib.ListN.{length}
 use Rattle.std.specs.shelf.Lists.{All}
 use Rattle.cover.specs.Choices.{Pigeonhole}
-use Rattle.cover.specs.Distances.{Metric, Near, Covers, Spaced}
+use Rattle.cover.specs.Distances.{Distance, Metric, Near, Covers, Spaced}
 
 -- what is left of far-apart pieces without those near one centre: all but one
-record Rest {P : Type 0} (dist : P → P → ℕ) (e r : ℕ) (cs far : List P) : Type 0 where
+record Rest {P : Type 0} (dist : Distance P) (e r : ℕ) (cs far : List P) : Type 0 where
   rest : List P
   spaced : Spaced dist e rest
   covered : Covers dist r cs rest
   count : length far ≤ suc (length rest)
   apart : (z : P) → All (λ y. e ≤ dist z y) far → All (λ y. e ≤ dist z y) rest
 
-module _ {P : Type 0} {dist : P → P → ℕ} (m : Metric dist) (e r : ℕ) (wide : 2 * r < e) where
+module _ {P : Type 0} {dist : Distance P} (m : Metric dist) (e r : ℕ) (wide : 2 * r < e) where
   -- where c is near x, it is near none that is far from x
   others : (c x : P) (cs ys : List P) → dist c x ≤ r → All (λ y. e ≤ dist x y) ys → Covers dist r (c ∷ cs) ys → Covers dist r cs ys
   others c x cs [] near far cover = tt

@@ -12,7 +12,7 @@ use Rattle.std.specs.shelf.Lists.{All, Each}
 use Rattle.std.proofs.shelf.Elements.{all-weaker}
 use Rattle.std.proofs.shelf.Tests.{leb-true, eqb-true, eq-eqb, ne-eqb}
 use Rattle.term.specs.Formulas.{Rule}
-use Rattle.cover.specs.Distances.{Metric}
+use Rattle.cover.specs.Distances.{Distance, Metric}
 use Rattle.rules.proofs.Changes.{first-is, first-any, all-changed, changed-past, each-changed, any-new, any-changed}
 use Rattle.rules.proofs.Histories.{arrived-low}
 use Rattle.rules.proofs.Orphans.{Own, Parts, Split}
@@ -20,7 +20,7 @@ use Rattle.rules.proofs.Somes.{any-push, any-last}
 use Rattle.rules.proofs.Sound.{Known, Living, Through, Ahead, Tied, Serves, Relevant, Coarse}
 use Rattle.rules.specs.Laws.{Lawful}
 use Rattle.rules.specs.Promises.{Arrived, last, older}
-use Rattle.rules.specs.Steps.{Distance, within, standingFor}
+use Rattle.rules.specs.Steps.{within, standingFor}
 use Rattle.rules.specs.Words.{Any, firstOf, changeFirst}
 use Rattle.rules.specs.declared.place.Place.{Place}
 

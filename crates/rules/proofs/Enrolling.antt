@@ -18,7 +18,7 @@ use Rattle.std.proofs.shelf.Tests.{leb-true, leb-false, le-leb, eq-eqb, ne-eqb}
 use Rattle.std.proofs.shelf.Ways.{eqb-tells}
 use Rattle.term.specs.Formulas.{Rule}
 use Rattle.term.specs.declared.window.Stamp.{Stamp}
-use Rattle.cover.specs.Distances.{Metric}
+use Rattle.cover.specs.Distances.{Distance, Metric}
 use Rattle.rules.proofs.Attracting.{grown, through-grown, living-grown, tied-grown, serves-grown, new-living, new-stands}
 use Rattle.rules.proofs.Expiring.{marked-kept}
 use Rattle.rules.proofs.Histories.{arrived-low}
@@ -27,7 +27,7 @@ use Rattle.rules.proofs.Somes.{Pairwise, any-weaker, any-push, any-last, any-p
 use Rattle.rules.proofs.Sound.{Known, Living, Through, Ahead, Tied, Serves, Relevant, Coarse, Close, Reaches, Fine}
 use Rattle.rules.specs.Laws.{Lawful}
 use Rattle.rules.specs.Promises.{Arrived, last, older}
-use Rattle.rules.specs.Steps.{Distance, within, standingFor, trim, enrol, oldest, cleanUp}
+use Rattle.rules.specs.Steps.{within, standingFor, trim, enrol, oldest, cleanUp}
 use Rattle.rules.specs.Views.{Settings, Entry, Row}
 use Rattle.rules.specs.Words.{Any}
 use Rattle.rules.specs.declared.place.Place.{Place}

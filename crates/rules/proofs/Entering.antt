@@ -11,7 +11,7 @@ use Rattle.std.specs.declared.option.Option.{Option}
 use Rattle.std.specs.declared.option.Option.the-variants.{Some, None}
 use Rattle.std.proofs.shelf.Tests.{cases-lt, cases-bool}
 use Rattle.term.specs.Formulas.{Rule}
-use Rattle.cover.specs.Distances.{Metric}
+use Rattle.cover.specs.Distances.{Distance, Metric}
 use Rattle.rules.proofs.Attracting.{grown, attracted}
 use Rattle.rules.proofs.Changes.{none-passes}
 use Rattle.rules.proofs.Enrolling.{Settled, enrolled-by}
@@ -20,7 +20,7 @@ use Rattle.rules.proofs.Histories.{Dated}
 use Rattle.rules.proofs.Refining.{fine-taken, fine-new}
 use Rattle.rules.proofs.Sound.{Sound}
 use Rattle.rules.specs.Laws.{Lawful}
-use Rattle.rules.specs.Steps.{Distance, within, step, expire, enrol, cleanUp, settleBy, settle, refineBy, refine, enter, postRow}
+use Rattle.rules.specs.Steps.{within, step, expire, enrol, cleanUp, settleBy, settle, refineBy, refine, enter, postRow}
 use Rattle.rules.specs.Views.{Settings, Entry, Row}
 use Rattle.rules.specs.Words.{firstOf}
 use Rattle.rules.specs.declared.place.Place.{Place}

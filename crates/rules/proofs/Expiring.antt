@@ -11,6 +11,7 @@ use Rattle.std.specs.declared.option.Option.the-variants.{Some, None}
 use Rattle.std.specs.shelf.Lists.{All, kept-by}
 use Rattle.std.proofs.shelf.Elements.{all-weaker}
 use Rattle.std.proofs.shelf.Tests.{cases-lt, both-ways}
+use Rattle.cover.specs.Distances.{Distance}
 use Rattle.term.specs.Formulas.{Rule}
 use Rattle.term.specs.declared.window.Stamp.{Stamp}
 use Rattle.rules.proofs.Histories.{Dated, still, sooner}
@@ -19,7 +20,7 @@ use Rattle.rules.proofs.Somes.{any-with, any-of-kept, any-stays, some-went, ke
 use Rattle.rules.proofs.Sound.{Known, Living, Ahead, Tied, Serves, Relevant, Coarse, Close, Reaches, Marked, Fine, Sound}
 use Rattle.rules.specs.Laws.{Lawful}
 use Rattle.rules.specs.Promises.{Arrived}
-use Rattle.rules.specs.Steps.{Distance, alive, expire}
+use Rattle.rules.specs.Steps.{alive, expire}
 use Rattle.rules.specs.Views.{Settings, Entry, Row}
 use Rattle.rules.specs.Words.{Any}
 use Rattle.rules.specs.declared.place.Place.{Place}

@@ -18,7 +18,7 @@ use Rattle.term.specs.Formulas.{Rule}
 use Rattle.cover.proofs.Farthest.{farthest-first}
 use Rattle.cover.proofs.Nearest.{covers-reach}
 use Rattle.cover.specs.Choices.{Choice, Good, reach, farthestFirst}
-use Rattle.cover.specs.Distances.{Metric, Near, Covers}
+use Rattle.cover.specs.Distances.{Distance, Metric, Near, Covers}
 use Rattle.rules.proofs.Histories.{Days, Dated}
 use Rattle.rules.proofs.Sound.{Living, Sound}
 use Rattle.rules.proofs.Standing.{used-living, stands}
@@ -28,7 +28,7 @@ use Rattle.rules.specs.Calls.{toldBy, writtenBy}
 use Rattle.rules.specs.Laws.{Lawful}
 use Rattle.rules.specs.Picking.{grainBy, used, slack, apart, choose, Taken, pickAmong}
 use Rattle.rules.specs.Promises.{Story, Arrived, counting, window, Named, Cover, WithinFactor, Factor, Refused, Answered}
-use Rattle.rules.specs.Steps.{Distance, step}
+use Rattle.rules.specs.Steps.{step}
 use Rattle.rules.specs.Views.{Settings, Row}
 use Rattle.rules.specs.Words.{Any}
 use Rattle.rules.specs.declared.picked.Grain.{Grain}

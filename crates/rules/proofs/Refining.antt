@@ -17,7 +17,7 @@ use Rattle.std.proofs.shelf.Tests.{leb-true}
 use Rattle.std.proofs.shelf.Ways.{eqb-tells}
 use Rattle.term.specs.Formulas.{Rule}
 use Rattle.term.specs.declared.window.Stamp.{Stamp}
-use Rattle.cover.specs.Distances.{Metric}
+use Rattle.cover.specs.Distances.{Distance, Metric}
 use Rattle.rules.proofs.Attracting.{grown, living-grown, new-living}
 use Rattle.rules.proofs.Changes.{first-is, first-any, all-changed, length-changed, any-new, any-changed, least-length, least-all, least-least, least-any}
 use Rattle.rules.proofs.Histories.{arrived-low}
@@ -25,7 +25,7 @@ use Rattle.rules.proofs.Somes.{any-push, any-last, all-unit}
 use Rattle.rules.proofs.Sound.{Relevant, Close, Reaches, Marked, Above, Fine}
 use Rattle.rules.specs.Laws.{Lawful}
 use Rattle.rules.specs.Promises.{Arrived, last, older}
-use Rattle.rules.specs.Steps.{Distance, within, takenBy, makeRoom}
+use Rattle.rules.specs.Steps.{within, takenBy, makeRoom}
 use Rattle.rules.specs.Views.{Entry, Row}
 use Rattle.rules.specs.Words.{Any, firstOf, changeFirst, least}
 use Rattle.rules.specs.declared.place.Place.{Place}

@@ -16,7 +16,7 @@ use Rattle.refusal.specs.declared.Refusal.{Refusal}
 use Rattle.refusal.specs.declared.Refusal.the-variants.{ShelfTooShort, ListTooShort, NothingCounts, NoRadiusPasses}
 use Rattle.term.specs.Formulas.{Rule}
 use Rattle.cover.specs.Choices.{reach}
-use Rattle.cover.specs.Distances.{Metric, Covers, Near}
+use Rattle.cover.specs.Distances.{Distance, Metric, Covers, Near}
 use Rattle.rules.proofs.Histories.{Days}
 use Rattle.rules.proofs.Orphans.{Own}
 use Rattle.rules.proofs.Picks.{choice-covers, none-all, among}
@@ -29,7 +29,6 @@ use Rattle.rules.specs.Calls.{nothingIn, pickTests, whyNotPick, pick, toldBy, 
 use Rattle.rules.specs.Laws.{Lawful}
 use Rattle.rules.specs.Picking.{grainBy, used, Taken, takenAfter, pickFrom}
 use Rattle.rules.specs.Promises.{Story, window, Refused, Answered}
-use Rattle.rules.specs.Steps.{Distance}
 use Rattle.rules.specs.Views.{Row, View}
 use Rattle.rules.specs.Words.{Any, isEmpty, lastOf, after}
 use Rattle.rules.specs.declared.picked.Picked.{Picked}

@@ -15,6 +15,7 @@ use Rattle.std.specs.shelf.Lists.{All}
 use Rattle.std.proofs.shelf.Elements.{all-weaker, length-each}
 use Rattle.std.proofs.shelf.Lists.{length-map, length-append}
 use Rattle.std.proofs.shelf.Tests.{ltb-true}
+use Rattle.cover.specs.Distances.{Distance}
 use Rattle.refusal.specs.declared.Refusal.{Refusal}
 use Rattle.refusal.specs.declared.Refusal.the-variants.{ShelfTooShort, ArrivalNotKept}
 use Rattle.term.specs.Formulas.{Rule}
@@ -27,7 +28,6 @@ use Rattle.rules.specs.Limits.{needed}
 use Rattle.rules.specs.Picking.{grainBy, used, Taken, taken, Pick as Chosen, pickAmong, pickFrom}
 use Rattle.rules.specs.Promises.{Story, why, RowFits, Fits}
 use Rattle.rules.specs.Runs.{Stage, SettingUp, Opened}
-use Rattle.rules.specs.Steps.{Distance}
 use Rattle.rules.specs.Views.{Settings, Setup, Row, View}
 use Rattle.rules.specs.Words.{Any, firstOf, firstReason, after, okOr}
 use Rattle.rules.specs.declared.picked.Grain.{Grain}

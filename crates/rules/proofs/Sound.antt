@@ -9,12 +9,13 @@ use lib.ListN.{length}
 use Rattle.std.specs.declared.option.Option.{Option}
 use Rattle.std.specs.declared.option.Option.the-variants.{Some, None}
 use Rattle.std.specs.shelf.Lists.{All}
+use Rattle.cover.specs.Distances.{Distance}
 use Rattle.term.specs.Formulas.{Rule}
 use Rattle.term.specs.declared.window.Stamp.{Stamp}
 use Rattle.rules.proofs.Orphans.{Rising, Split}
 use Rattle.rules.proofs.Somes.{Pairwise}
 use Rattle.rules.specs.Promises.{Arrived, last, older}
-use Rattle.rules.specs.Steps.{Distance, step}
+use Rattle.rules.specs.Steps.{step}
 use Rattle.rules.specs.Views.{Settings, Entry, Row}
 use Rattle.rules.specs.Words.{Any}
 use Rattle.rules.specs.declared.place.Place.{Place}

@@ -17,7 +17,7 @@ use Rattle.std.proofs.shelf.Lists.{length-map}
 use Rattle.std.proofs.shelf.Tests.{ltb-false, or-parts, and-parts, not-false}
 use Rattle.refusal.specs.declared.Refusal.{Refusal}
 use Rattle.term.specs.Formulas.{Rule}
-use Rattle.cover.specs.Distances.{Metric}
+use Rattle.cover.specs.Distances.{Distance, Metric}
 use Rattle.rules.proofs.Attracting.{grown}
 use Rattle.rules.proofs.Entering.{posted-radius, row-posted}
 use Rattle.rules.proofs.Expiring.{expired}
@@ -30,7 +30,7 @@ use Rattle.rules.specs.Laws.{Lawful}
 use Rattle.rules.specs.Limits.{Judged, allowed, greatestRadius, badDay, lastDay}
 use Rattle.rules.specs.Promises.{Story, told, story}
 use Rattle.rules.specs.Runs.{Event, Radius, Open, Post, Turn, Stage, SettingUp, Opened, Reached, begun, tried, opened, posted as then-posted, turned as then-turned, found, handedOut, picked}
-use Rattle.rules.specs.Steps.{Distance, bare, expire, postRow}
+use Rattle.rules.specs.Steps.{bare, expire, postRow}
 use Rattle.rules.specs.Views.{Settings, Row, Setup, View}
 use Rattle.rules.specs.Words.{lastOf, after, leaves}
 

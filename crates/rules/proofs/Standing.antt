@@ -14,14 +14,14 @@ use Rattle.std.proofs.shelf.Elements.{all-weaker, all-map}
 use Rattle.std.proofs.shelf.Tests.{cases-bool, cases-lt, both-ways}
 use Rattle.term.specs.Formulas.{Rule}
 use Rattle.term.specs.declared.window.Stamp.{Stamp}
-use Rattle.cover.specs.Distances.{Metric}
+use Rattle.cover.specs.Distances.{Distance, Metric}
 use Rattle.rules.proofs.Histories.{Dated, still, arrived-same}
 use Rattle.rules.proofs.Somes.{any-with}
 use Rattle.rules.proofs.Sound.{Living, Tied, Serves, Close, Reaches, Marked, Above, Sound}
 use Rattle.rules.specs.Laws.{Lawful}
 use Rattle.rules.specs.Picking.{grainBy, used, slack}
 use Rattle.rules.specs.Promises.{Arrived}
-use Rattle.rules.specs.Steps.{Distance, step}
+use Rattle.rules.specs.Steps.{step}
 use Rattle.rules.specs.Views.{Settings, Entry, Row}
 use Rattle.rules.specs.Words.{Any}
 use Rattle.rules.specs.declared.picked.Grain.{Grain}

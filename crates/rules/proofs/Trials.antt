@@ -17,14 +17,14 @@ use Rattle.std.proofs.shelf.Tests.{leb-true, leb-false, or-parts, and-cases, an
 use Rattle.term.specs.Formulas.{Rule}
 use Rattle.cover.proofs.Farthest.{spaced-push}
 use Rattle.cover.proofs.Pigeons.{pigeons}
-use Rattle.cover.specs.Distances.{Metric, Near, Covers, Spaced}
+use Rattle.cover.specs.Distances.{Distance, Metric, Near, Covers, Spaced}
 use Rattle.rules.proofs.Somes.{Pairwise}
 use Rattle.rules.proofs.Sound.{Living, Ahead, Tied, Coarse, Sound}
 use Rattle.rules.proofs.Windows.{metric-apart, lone, covers-places, Beats}
 use Rattle.rules.specs.Limits.{allowed}
 use Rattle.rules.specs.Picking.{anyWithin, choose, passes, apart, Taken, takenAfter}
 use Rattle.rules.specs.Promises.{counting}
-use Rattle.rules.specs.Steps.{Distance, within}
+use Rattle.rules.specs.Steps.{within}
 use Rattle.rules.specs.Views.{Settings, Row}
 use Rattle.rules.specs.Words.{lastOf}
 use Rattle.rules.specs.declared.place.Place.{Place}

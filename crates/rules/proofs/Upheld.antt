@@ -1,15 +1,17 @@
 -- The theorem over runs: every event keeps its promise, and no list passes its part.
 use mathlib.Core.List.{List, [], _∷_}
 use Rattle.term.specs.Formulas.{Rule}
-use Rattle.cover.specs.Distances.{Metric}
+use Rattle.cover.specs.Distances.{Distance, Metric}
 use Rattle.rules.proofs.Refusing.{pick-holds}
 use Rattle.rules.proofs.Room.{fits, radius-served, post-served, turn-served, find-served, hand-served, pick-served}
 use Rattle.rules.proofs.Stages.{holds}
+use Rattle.rules.specs.Calls.{whyNotPost, posted as after-post}
 use Rattle.rules.specs.Laws.{Lawful}
-use Rattle.rules.specs.Promises.{story, Upheld, RunsHold}
-use Rattle.rules.specs.Runs.{Event, Stage, Reached, begun, tried, opened, posted, turned, found, handedOut, picked}
-use Rattle.rules.specs.Steps.{Distance}
-use mathlib.Core.Path.{_≡_}
+use Rattle.rules.specs.Views.{View}
+use Rattle.rules.specs.Words.{leaves}
+use Rattle.rules.specs.Promises.{story, Upheld, Fits, RunsHold}
+use Rattle.rules.specs.Runs.{Event, Stage, Opened, Reached, begun, tried, opened, posted, turned, found, handedOut, picked}
+use mathlib.Core.Path.{_≡_, refl}
 use native.Mathlib.Omega.{arith}
 use Prim.Native.Nat.{ℕ}
 
@@ -36,3 +38,9 @@ upheld dist metric counts law (picked {es} {b} {r} {answers′} {work′} answer
 
 pub runs-hold : (P : Type 0) → RunsHold P
 runs-hold P dist metric counts law es stage run = (upheld dist metric counts law run, fits dist counts (story es) stage (holds dist metric counts law run))
+
+-- what a post in a run leaves fits the shelf, so that no cap is needed
+pub post-fits : {P : Type 0} (dist : Distance P) (metric : Metric dist) (counts : Rule) (law : Lawful counts) {es : List (Event P)} {b : View P} (p : P) (d : ℕ)
+    → Reached dist counts es (Opened b) → Fits (Opened (leaves (whyNotPost b d) b (after-post dist counts p d b)))
+post-fits {P} dist metric counts law p d run =
+    runs-hold P dist metric counts law _ _ (posted p d run (record { answer = refl; left = refl })) .1

@@ -10,11 +10,10 @@ use Rattle.std.specs.shelf.Lists.{All}
 use Rattle.std.proofs.shelf.Elements.{all-weaker}
 use Rattle.std.proofs.shelf.Lists.{length-map}
 use Rattle.term.specs.Formulas.{Rule}
-use Rattle.cover.specs.Distances.{Metric, Near, Covers}
+use Rattle.cover.specs.Distances.{Distance, Metric, Near, Covers}
 use Rattle.rules.proofs.Sound.{Living}
 use Rattle.rules.specs.Picking.{apart}
 use Rattle.rules.specs.Promises.{Arrived, last, older, counting}
-use Rattle.rules.specs.Steps.{Distance}
 use Rattle.rules.specs.declared.place.Place.{Place}
 
 module _ {P : Type 0} (counts : Rule) (m n : ℕ) (Q : P → Type 0) where

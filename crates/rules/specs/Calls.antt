@@ -9,13 +9,14 @@ use Rattle.std.specs.declared.option.Option.{Option}
 use Rattle.std.specs.declared.option.Option.the-variants.{Some, None}
 use Rattle.std.specs.declared.result.Result.{Result}
 use Rattle.std.specs.declared.result.Result.the-variants.{Ok, Err}
+use Rattle.cover.specs.Distances.{Distance}
 use Rattle.refusal.specs.Makes.{MadeIf}
 use Rattle.refusal.specs.declared.Refusal.{Refusal}
 use Rattle.refusal.specs.declared.Refusal.the-variants.{SettingOutOfRange, RadiusListFull, RadiusNotAllowed, ShelfTooShort, PostsUsedUp, DayNotAllowed, ListTooShort, NothingCounts, ArrivalNotKept}
 use Rattle.term.specs.Formulas.{Rule}
 use Rattle.rules.specs.Limits.{Judged, mostRadii, greatestRadius, allowed, mostPosts, badDay, attractorRoom, partSize, needed, workNeeded}
 use Rattle.rules.specs.Picking.{Pick, taken, pickFrom}
-use Rattle.rules.specs.Steps.{Distance, bare, expire, postRow}
+use Rattle.rules.specs.Steps.{bare, expire, postRow}
 use Rattle.rules.specs.Views.{Settings, Row, Setup, View}
 use Rattle.rules.specs.Words.{firstOf, isEmpty, lastOf, firstReason, after, leaves, okOr}
 use Rattle.rules.specs.declared.picked.Picked.{Picked}

@@ -11,14 +11,13 @@ use Rattle.std.specs.declared.result.Result.{Result}
 use Rattle.std.specs.declared.result.Result.the-variants.{Ok, Err}
 use Rattle.std.specs.shelf.Lists.{All}
 use Rattle.cover.specs.Choices.{Choice, reach}
-use Rattle.cover.specs.Distances.{Metric, Covers}
+use Rattle.cover.specs.Distances.{Distance, Metric, Covers}
 use Rattle.refusal.specs.declared.Refusal.{Refusal}
 use Rattle.refusal.specs.declared.Refusal.the-variants.{ShelfTooShort, ListTooShort, NothingCounts, NoRadiusPasses}
 use Rattle.term.specs.Formulas.{Rule}
 use Rattle.rules.specs.Laws.{Lawful}
 use Rattle.rules.specs.Limits.{attractorRoom, representativeRoom, needed}
 use Rattle.rules.specs.Runs.{Event, Begin, Radius, Open, Post, Turn, Find, HandOut, Pick, Stage, SettingUp, Opened, Reached}
-use Rattle.rules.specs.Steps.{Distance}
 use Rattle.rules.specs.Views.{Settings, Row}
 use Rattle.rules.specs.Words.{lastOf}
 use Rattle.rules.specs.declared.picked.Grain.{Grain}
@@ -154,9 +153,11 @@ abbrev pub Fits : {P : Type 0} → Stage P → Type 0
 Fits (SettingUp u) = Unit {0}
 Fits (Opened b) = All (RowFits (b .settings)) (b .rows)
 
--- The theorem: in every run of a book, under every tape and term that obey the laws, cover, factor, refusal and room hold.
+-- In every run of a book, under a tape and a term of these meanings, cover, factor, refusal and room hold.
+abbrev pub RunsHoldUnder : (P : Type 0) → Distance P → Rule → Type 0
+RunsHoldUnder P dist counts =
+    (es : List (Event P)) (stage : Stage P) → Reached dist counts es stage → Upheld dist counts es × Fits stage
+
+-- The theorem: so it is under every tape and every term that obey the laws.
 abbrev pub RunsHold : Type 0 → Type 0
-RunsHold P =
-    (dist : Distance P) → Metric dist → (counts : Rule) → Lawful counts
-    → (es : List (Event P)) (stage : Stage P) → Reached dist counts es stage
-    → Upheld dist counts es × Fits stage
+RunsHold P = (dist : Distance P) → Metric dist → (counts : Rule) → Lawful counts → RunsHoldUnder P dist counts

@@ -4,7 +4,9 @@
 //! holds, `Steps` what a post and a turn of the day do to it, `Picking` how a pick chooses, and `Calls` what each call
 //! answers, refuses and leaves. `Runs` says which runs there are, and `Promises` what is promised of them all.
 
-ghost use Rattle.rules.specs.Promises.{RunsHold};
+ghost use Rattle.rules.specs.Promises.{RunsHold, RunsHoldUnder};
+use tape::Tape;
+use term::Term;
 
 pub mod picked;
 pub mod place;
@@ -18,6 +20,13 @@ pub use place::Place;
 /// shelf of the stated size never runs out (room).
 pub fn runs_hold<P>() -> u8
     ensures { λ _. ⌜ RunsHold P ⌝ }
+{
+    0
+}
+
+/// The same, of a given tape and term: whatever implements the traits obeys their laws.
+pub fn runs_hold_under<P, T: Tape<P>, W: Term>(tape: &T, term: &W) -> u8
+    ensures { λ _. ⌜ RunsHoldUnder P (T·Tape .dist (now (tape .entry))) (W·Term .counts (now (term .entry))) ⌝ }
 {
     0
 }
