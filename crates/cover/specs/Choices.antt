@@ -5,7 +5,7 @@ use Prim.Native.Nat.{ℕ, zero, suc, _*_, min, max, _<_, _≤_}
 use lib.Dec.{eqb, ltb}
 use lib.ListN.{length, getD}
 use Rattle.std.specs.shelf.Lists.{All, Has}
-use Rattle.cover.specs.Distances.{Distance, Metric, Near, Covers, Spaced}
+use Rattle.cover.specs.Distances.{Distance, Metric, Covers, Spaced}
 
 -- one to k pieces
 abbrev pub Choice : {P : Type 0} → ℕ → List P → Type 0

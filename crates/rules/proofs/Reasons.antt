@@ -1,14 +1,13 @@
 -- Why a call is refused: the first of its tests that is true.
-use mathlib.Core.Path.{_≡_, refl, sym, subst, _∙_, ap}
-use mathlib.Core.Bool.{Bool, true, false, cond}
+use mathlib.Core.Path.{_≡_}
+use mathlib.Core.Bool.{Bool, true, false}
 use mathlib.Core.List.{List, [], _∷_}
 use mathlib.Core.Logic.{_⊎_, inl, inr}
 use native.Mathlib.Omega.{arith}
-use Prim.Native.Nat.{ℕ, _<_, _≤_}
+use Prim.Native.Nat.{ℕ}
 use Rattle.std.specs.declared.option.Option.{Option}
 use Rattle.std.specs.declared.option.Option.the-variants.{Some, None}
 use Rattle.std.specs.declared.result.Result.{Result}
-use Rattle.std.specs.declared.result.Result.the-variants.{Ok, Err}
 use Rattle.std.specs.shelf.Lists.{All}
 use Rattle.std.proofs.shelf.Tests.{cases-bool}
 use Rattle.refusal.specs.declared.Refusal.{Refusal}
@@ -16,7 +15,8 @@ use Rattle.rules.specs.Promises.{why}
 use Rattle.rules.specs.Words.{Any, firstReason, after, okOr}
 
 -- a refusal is one whose test is true
-pub reason-tested : (rs : List (Bool × Refusal)) (e : Refusal) → firstReason rs ≡ Some e → Any (λ r. (r .0 ≡ true) × (r .1 ≡ e)) rs
+pub reason-tested : (rs : List (Bool × Refusal)) (e : Refusal) → firstReason rs ≡ Some e
+    → Any (λ r. (r .0 ≡ true) × (r .1 ≡ e)) rs
 reason-tested [] e h = let z : _≡_ {A = ℕ} 0 1 = cc in absurd (omega arith)
 reason-tested (r ∷ rs) e h =
     elim (cases-bool (r .0)) [
@@ -34,7 +34,8 @@ no-reason (r ∷ rs) h =
     ]
 
 -- a refused answer has its reason, or is what comes after
-pub why-after : {X : Type 0} (w : Option Refusal) (r : Result X Refusal) (e : Refusal) → why (after w r) ≡ Some e → (w ≡ Some e) ⊎ (why r ≡ Some e)
+pub why-after : {X : Type 0} (w : Option Refusal) (r : Result X Refusal) (e : Refusal) → why (after w r) ≡ Some e
+    → (w ≡ Some e) ⊎ (why r ≡ Some e)
 why-after None r e h = inr h
 why-after (Some d) r e h = inl h
 

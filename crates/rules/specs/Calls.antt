@@ -85,7 +85,8 @@ posted dist counts p d b = record {
   places = b .places;
 }
 
-pub record PostRule {P : Type 0} (dist : Distance P) (counts : Rule) (b : View P) (p : P) (d : ℕ) (r : Result (Unit {0}) Refusal) (b′ : View P) : Type 0 where
+pub record PostRule {P : Type 0} (dist : Distance P) (counts : Rule) (b : View P) (p : P) (d : ℕ)
+    (r : Result (Unit {0}) Refusal) (b′ : View P) : Type 0 where
   pub answer : r ≡ after (whyNotPost b d) (Ok tt)
   pub left : b′ ≡ leaves (whyNotPost b d) b (posted dist counts p d b)
 
@@ -105,7 +106,8 @@ turned counts d b = record {
   places = b .places;
 }
 
-pub record TurnRule {P : Type 0} (counts : Rule) (b : View P) (d : ℕ) (r : Result (Unit {0}) Refusal) (b′ : View P) : Type 0 where
+pub record TurnRule {P : Type 0} (counts : Rule) (b : View P) (d : ℕ) (r : Result (Unit {0}) Refusal)
+    (b′ : View P) : Type 0 where
   pub answer : r ≡ after (whyNotTurn b d) (Ok tt)
   pub left : b′ ≡ leaves (whyNotTurn b d) b (turned counts d b)
 
@@ -148,11 +150,13 @@ pieceOf (Some x) = Some (x .1 .piece)
 
 -- Find, for an arrival: the lowest place of its piece.
 abbrev pub FindRule : {P : Type 0} → View P → ℕ → Result ℕ Refusal → Type 0
-FindRule b a r = r ≡ after (whyNotSeek b) (okOr ArrivalNotKept (placeOf (firstOf (λ x. eqb (x .1 .arrival) a) (shelved b))))
+FindRule b a r = r ≡ after (whyNotSeek b)
+    (okOr ArrivalNotKept (placeOf (firstOf (λ x. eqb (x .1 .arrival) a) (shelved b))))
 
 -- Hand out: the piece at a place.
 abbrev pub HandOutRule : {P : Type 0} → View P → ℕ → Result P Refusal → Type 0
-HandOutRule b at r = r ≡ after (whyNotSeek b) (okOr ArrivalNotKept (pieceOf (firstOf (λ x. eqb (x .0) at) (shelved b))))
+HandOutRule b at r = r ≡ after (whyNotSeek b)
+    (okOr ArrivalNotKept (pieceOf (firstOf (λ x. eqb (x .0) at) (shelved b))))
 
 -- no piece counts: the first radius has no coarse representative
 abbrev pub nothingIn : {P : Type 0} → List (Row P) → Bool
@@ -187,7 +191,8 @@ abbrev pub Spared : {P : Type 0} → Result (Pick P) Refusal → List ℕ → Li
 Spared (Ok p) work work′ = Unit {0}
 Spared (Err e) work work′ = work′ ≡ work
 
-pub record PickRule {P : Type 0} (dist : Distance P) (counts : Rule) (b : View P) (answers work : List ℕ) (r : Result Picked Refusal) (answers′ work′ : List ℕ) : Type 0 where
+pub record PickRule {P : Type 0} (dist : Distance P) (counts : Rule) (b : View P) (answers work : List ℕ)
+    (r : Result Picked Refusal) (answers′ work′ : List ℕ) : Type 0 where
   pub answer : r ≡ toldBy (pick dist counts b answers work)
   pub written : answers′ ≡ writtenBy (pick dist counts b answers work) answers
   pub spared : Spared (pick dist counts b answers work) work work′

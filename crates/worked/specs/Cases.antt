@@ -5,12 +5,10 @@ use mathlib.Core.List.{List, [], _∷_}
 use Prim.Native.Nat.{ℕ, zero, suc, min, _+_, _/_, _%_}
 use lib.Dec.{eqb}
 use lib.IntN.{pos, _-ℤ_}
-use lib.ListN.{replicate, length}
-use Rattle.std.specs.declared.option.Option.{Option}
+use lib.ListN.{replicate}
 use Rattle.std.specs.declared.option.Option.the-variants.{Some, None}
 use Rattle.std.specs.declared.result.Result.the-variants.{Ok, Err}
 use Rattle.grade.specs.Tables.{entry}
-use Rattle.refusal.specs.declared.Refusal.{Refusal}
 use Rattle.refusal.specs.declared.Refusal.the-variants.{RadiusNotAllowed, DayNotAllowed, NoRadiusPasses}
 use Rattle.rules.specs.Calls.{whyNotRadius, whyNotPost}
 use Rattle.rules.specs.Runs.{Opened, Reached}

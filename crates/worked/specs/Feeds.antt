@@ -1,5 +1,4 @@
 -- Books of hull panels under the hull tape and the term of the last three pieces, posted to on day 1.
-use mathlib.Core.Path.{_≡_}
 use mathlib.Core.List.{List, [], _∷_}
 use Prim.Native.Nat.{ℕ, min}
 use lib.IntN.{pos}
