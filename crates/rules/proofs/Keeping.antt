@@ -27,7 +27,7 @@ use Rattle.rules.proofs.Trials.{Growing}
 use Rattle.rules.specs.Calls.{postTests, whyNotPost, arriving, posted, PostRule, turnTests, whyNotTurn, turned, TurnRule}
 use Rattle.rules.specs.Laws.{Lawful}
 use Rattle.rules.specs.Limits.{badDay, lastDay}
-use Rattle.rules.specs.Promises.{Story, told, story}
+use Rattle.rules.specs.Promises.{Story, next, story}
 use Rattle.rules.specs.Runs.{Event, Post, Turn, Stage, Reached, begun, tried, opened, posted as then-posted, turned as then-turned, found, handedOut, picked}
 use Rattle.rules.specs.Steps.{expire, postRow}
 use Rattle.rules.specs.Views.{Row, View}
@@ -49,7 +49,7 @@ module _ {P : Type 0} (dist : Distance P) (metric : Metric dist) {counts : Rule}
       → Running dist counts t (viewOf t rows) → radiiOf rows ≡ t .radii
       → Growing None (radiiOf rows) → 1 ≤ length rows
       → All (Sound dist counts (t .settings) (t .posts) (length (t .posts)) (t .day)) rows
-      → Running dist counts (told (Post p d (after o (Ok tt))) t)
+      → Running dist counts (next (Post p d (after o (Ok tt))) t)
       (leaves o (viewOf t rows) (posted dist counts p d (viewOf t rows)))
   post-by p d rows (Some e) none k radii growing some sound = k
   post-by p d rows None none k radii growing some sound =
@@ -76,13 +76,13 @@ module _ {P : Type 0} (dist : Distance P) (metric : Metric dist) {counts : Rule}
       }
 
   post-kept : (p : P) (d : ℕ) (b b2 : View P) (r : Result (Unit {0}) Refusal) → Running dist counts t b
-      → PostRule dist counts b p d r b2 → Running dist counts (told (Post p d r) t) b2
+      → PostRule dist counts b p d r b2 → Running dist counts (next (Post p d r) t) b2
   post-kept p d b b2 r k rule =
       let v = viewOf t (k .rows) in
       let here : PostRule dist counts v p d r b2 = subst (λ w. PostRule dist counts w p d r b2) (k .same) rule in
       let o = whyNotPost v d in
-      subst (Running dist counts (told (Post p d r) t)) (sym (here .left))
-      (subst (λ s. Running dist counts (told (Post p d s) t) (leaves o v (posted dist counts p d v)))
+      subst (Running dist counts (next (Post p d r) t)) (sym (here .left))
+      (subst (λ s. Running dist counts (next (Post p d s) t) (leaves o v (posted dist counts p d v)))
       (sym (here .answer))
       (post-by p d (k .rows) o refl (subst (Running dist counts t) (k .same) k) (k .radii) (k .growing) (k .some)
       (k .sound)))
@@ -91,7 +91,7 @@ module _ {P : Type 0} (dist : Distance P) (metric : Metric dist) {counts : Rule}
       → Running dist counts t (viewOf t rows) → radiiOf rows ≡ t .radii
       → Growing None (radiiOf rows) → 1 ≤ length rows
       → All (Sound dist counts (t .settings) (t .posts) (length (t .posts)) (t .day)) rows
-      → Running dist counts (told (Turn d (after o (Ok tt))) t)
+      → Running dist counts (next (Turn d (after o (Ok tt))) t)
       (leaves o (viewOf t rows) (turned counts d (viewOf t rows)))
   turn-by d rows (Some e) none k radii growing some sound = k
   turn-by d rows None none k radii growing some sound =
@@ -117,13 +117,13 @@ module _ {P : Type 0} (dist : Distance P) (metric : Metric dist) {counts : Rule}
       }
 
   turn-kept : (d : ℕ) (b b2 : View P) (r : Result (Unit {0}) Refusal) → Running dist counts t b
-      → TurnRule counts b d r b2 → Running dist counts (told (Turn d r) t) b2
+      → TurnRule counts b d r b2 → Running dist counts (next (Turn d r) t) b2
   turn-kept d b b2 r k rule =
       let v = viewOf t (k .rows) in
       let here : TurnRule counts v d r b2 = subst (λ w. TurnRule counts w d r b2) (k .same) rule in
       let o = whyNotTurn v d in
-      subst (Running dist counts (told (Turn d r) t)) (sym (here .left))
-      (subst (λ s. Running dist counts (told (Turn d s) t) (leaves o v (turned counts d v))) (sym (here .answer))
+      subst (Running dist counts (next (Turn d r) t)) (sym (here .left))
+      (subst (λ s. Running dist counts (next (Turn d s) t) (leaves o v (turned counts d v))) (sym (here .answer))
       (turn-by d (k .rows) o refl (subst (Running dist counts t) (k .same) k) (k .radii) (k .growing) (k .some)
       (k .sound)))
 

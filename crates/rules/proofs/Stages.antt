@@ -23,7 +23,7 @@ use Rattle.rules.proofs.Sound.{Sound}
 use Rattle.rules.proofs.Trials.{Growing}
 use Rattle.rules.specs.Calls.{radiusTests, whyNotRadius, withRadius, RadiusRule, opening, OpenRule}
 use Rattle.rules.specs.Limits.{Judged, allowed, greatestRadius}
-use Rattle.rules.specs.Promises.{Story, told}
+use Rattle.rules.specs.Promises.{Story, next}
 use Rattle.rules.specs.Runs.{Radius, Open, Stage, SettingUp, Opened}
 use Rattle.rules.specs.Steps.{bare}
 use Rattle.rules.specs.Views.{Settings, Row, Setup, View}
@@ -85,7 +85,7 @@ longer (x ∷ xs) g = omega arith
 
 radius-by : {P : Type 0} (t : Story P) (g : ℕ) (o : Option Refusal) → whyNotRadius (setupOf t) g ≡ o
     → Begun t (setupOf t)
-    → Begun (told (Radius g (after o (Ok tt))) t) (leaves o (setupOf t) (withRadius (setupOf t) g))
+    → Begun (next (Radius g (after o (Ok tt))) t) (leaves o (setupOf t) (withRadius (setupOf t) g))
 radius-by t g (Some e) none k = k
 radius-by t g None none k = record {
   same = refl;
@@ -101,12 +101,12 @@ radius-by t g None none k = record {
 }
 
 pub radius-kept : {P : Type 0} (t : Story P) (g : ℕ) (u u2 : Setup) (r : Result (Unit {0}) Refusal) → Begun t u
-    → RadiusRule u g r u2 → Begun (told (Radius g r) t) u2
+    → RadiusRule u g r u2 → Begun (next (Radius g r) t) u2
 radius-kept t g u u2 r k rule =
     let here : RadiusRule (setupOf t) g r u2 = subst (λ w. RadiusRule w g r u2) (k .same) rule in
     let o = whyNotRadius (setupOf t) g in
-    subst (λ w. Begun (told (Radius g r) t) w) (sym (here .left))
-    (subst (λ s. Begun (told (Radius g s) t) (leaves o (setupOf t) (withRadius (setupOf t) g))) (sym (here .answer))
+    subst (λ w. Begun (next (Radius g r) t) w) (sym (here .left))
+    (subst (λ s. Begun (next (Radius g s) t) (leaves o (setupOf t) (withRadius (setupOf t) g))) (sym (here .answer))
     (radius-by t g o refl (subst (Begun t) (k .same) k)))
 
 radii-bare : (P : Type 0) (gs : List ℕ) → radiiOf {P = P} (map bare gs) ≡ gs
@@ -140,7 +140,7 @@ module _ {P : Type 0} (dist : Distance P) (counts : Rule) where
   bares-sound set m n (g ∷ gs) = (bare-sound set m n g, bares-sound set m n gs)
 
   pub open-kept : (t : Story P) (u : Setup) (b : View P) (places : ℕ) → Begun t u → OpenRule u places b
-      → Running dist counts (told (Open places) t) b
+      → Running dist counts (next (Open places) t) b
   open-kept t u b places k rule = record {
     rows = map bare (t .radii);
     same = rule ∙ ap (λ w. opening w places) (k .same) ∙ empty;
@@ -155,7 +155,7 @@ module _ {P : Type 0} (dist : Distance P) (counts : Rule) where
         (bares-sound (t .settings) (length (t .posts)) (t .day) (t .radii));
   }
     where
-      empty : opening (setupOf t) places ≡ viewOf (told (Open places) t) (map bare (t .radii))
+      empty : opening (setupOf t) places ≡ viewOf (next (Open places) t) (map bare (t .radii))
       empty i = record {
         settings = t .settings;
         rows = map bare (t .radii);

@@ -14,7 +14,7 @@ use Rattle.refusal.specs.Makes.{MadeIf}
 use Rattle.refusal.specs.declared.Refusal.{Refusal}
 use Rattle.refusal.specs.declared.Refusal.the-variants.{SettingOutOfRange, RadiusListFull, RadiusNotAllowed, ShelfTooShort, PostsUsedUp, DayNotAllowed, ListTooShort, NothingCounts, ArrivalNotKept}
 use Rattle.term.specs.Formulas.{Rule}
-use Rattle.rules.specs.Limits.{Judged, mostRadii, greatestRadius, allowed, mostPosts, badDay, attractorRoom, partSize, needed, workNeeded}
+use Rattle.rules.specs.Limits.{Judged, mostRadii, greatestRadius, allowed, mostPosts, badDay, representativesAt, latestsAt, partSize, needed, workNeeded}
 use Rattle.rules.specs.Picking.{Pick, taken, pickFrom}
 use Rattle.rules.specs.Steps.{bare, expire, postRow}
 use Rattle.rules.specs.Views.{Settings, Row, Setup, View}
@@ -121,8 +121,8 @@ lying at (x ∷ xs) = (at, x) ∷ lying (suc at) xs
 abbrev pub lyingIn : {P : Type 0} → Settings → ℕ → Row P → List (ℕ × Place P)
 lyingIn s at row =
     lying at (row .attractors)
-    ++ (lying (at + attractorRoom (s .k)) (row .representatives)
-    ++ lying (at + (3 * s .k + 3 + s .fineLimit)) (map (λ e. e .latest) (row .fine)))
+    ++ (lying (at + representativesAt s) (row .representatives)
+    ++ lying (at + latestsAt s) (map (λ e. e .latest) (row .fine)))
 
 -- the same of all radii, one part after another
 abbrev pub lyingFrom : {P : Type 0} → Settings → ℕ → List (Row P) → List (ℕ × Place P)
@@ -132,7 +132,8 @@ lyingFrom s at (row ∷ rows) = lyingIn s at row ++ lyingFrom s (at + partSize s
 abbrev pub shelved : {P : Type 0} → View P → List (ℕ × Place P)
 shelved b = lyingFrom (b .settings) 0 (b .rows)
 
--- Find and hand out are refused for a short shelf alone, besides what is not there.
+-- A find, a hand out and a pick are lent the book and the shelf for reading, so these keep what they held.
+-- Find and hand out are refused for a short shelf, and for what is not there.
 abbrev pub seekTests : {P : Type 0} → View P → List (Bool × Refusal)
 seekTests b = (short b, ShelfTooShort) ∷ []
 

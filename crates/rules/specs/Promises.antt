@@ -33,23 +33,27 @@ pub record Story (P : Type 0) : Type 0 where
   pub posts : List (P × ℕ)
   pub day : ℕ
 
--- one event more
-abbrev pub told : {P : Type 0} → Event P → Story P → Story P
-told (Begin s) t = record { settings = s; radii = 0 ∷ []; places = 0; posts = []; day = 0 }
-told (Radius g (Ok u)) t = record { settings = t .settings; radii = t .radii ++ (g ∷ []); places = t .places; posts = t .posts; day = t .day }
-told (Radius g (Err e)) t = t
-told (Open places) t = record { settings = t .settings; radii = t .radii; places = places; posts = t .posts; day = t .day }
-told (Post p d (Ok u)) t = record { settings = t .settings; radii = t .radii; places = t .places; posts = (p, d) ∷ t .posts; day = d }
-told (Post p d (Err e)) t = t
-told (Turn d (Ok u)) t = record { settings = t .settings; radii = t .radii; places = t .places; posts = t .posts; day = d }
-told (Turn d (Err e)) t = t
-told (Find a r) t = t
-told (HandOut at r) t = t
-told (Pick answers work r answers′) t = t
+-- the story with one event more
+abbrev pub next : {P : Type 0} → Event P → Story P → Story P
+next (Begin s) t = record { settings = s; radii = 0 ∷ []; places = 0; posts = []; day = 0 }
+next (Radius g (Ok u)) t =
+    record { settings = t .settings; radii = t .radii ++ (g ∷ []); places = t .places; posts = t .posts; day = t .day }
+next (Radius g (Err e)) t = t
+next (Open places) t =
+    record { settings = t .settings; radii = t .radii; places = places; posts = t .posts; day = t .day }
+next (Post p d (Ok u)) t =
+    record { settings = t .settings; radii = t .radii; places = t .places; posts = (p, d) ∷ t .posts; day = d }
+next (Post p d (Err e)) t = t
+next (Turn d (Ok u)) t =
+    record { settings = t .settings; radii = t .radii; places = t .places; posts = t .posts; day = d }
+next (Turn d (Err e)) t = t
+next (Find a r) t = t
+next (HandOut at r) t = t
+next (Pick answers work r answers′) t = t
 
 abbrev pub story : {P : Type 0} → List (Event P) → Story P
 story [] = record { settings = record { k = 0; f = 0; fineLimit = 0 }; radii = []; places = 0; posts = []; day = 0 }
-story (e ∷ es) = told e (story es)
+story (e ∷ es) = next e (story es)
 
 -- The piece p was posted on day d as number a of the posts.
 pub data Arrived {P : Type 0} (a : ℕ) (p : P) (d : ℕ) : List (P × ℕ) → Type 0 where
@@ -59,7 +63,8 @@ pub data Arrived {P : Type 0} (a : ℕ) (p : P) (d : ℕ) : List (P × ℕ) → 
 -- of those posts, newest first, the pieces that count after m posts and on day n
 abbrev pub counting : {P : Type 0} → Rule → ℕ → ℕ → List (P × ℕ) → List P
 counting counts m n [] = []
-counting counts m n (x ∷ h) = cond (counts (suc (length h)) (x .1) m n) (x .0 ∷ counting counts m n h) (counting counts m n h)
+counting counts m n (x ∷ h) =
+    cond (counts (suc (length h)) (x .1) m n) (x .0 ∷ counting counts m n h) (counting counts m n h)
 
 -- The window: the posted pieces that count now.
 abbrev pub window : {P : Type 0} → Rule → Story P → List P
@@ -78,7 +83,8 @@ Named counts t (a ∷ ns) (p ∷ ps) = Counting counts t a p × Named counts t n
 
 -- Cover: the first numbers of the answer list name one to k centres that count, and every piece that counts lies
 -- within the pick's radius of one of them.
-pub record Cover {P : Type 0} (dist : Distance P) (counts : Rule) (t : Story P) (p : Picked) (answers : List ℕ) : Type 0 where
+pub record Cover {P : Type 0} (dist : Distance P) (counts : Rule) (t : Story P) (p : Picked)
+    (answers : List ℕ) : Type 0 where
   pub centres : List P
   pub named : Named counts t (take (p .count) answers) centres
   pub all : length centres ≡ p .count
@@ -99,7 +105,8 @@ Factor {P} dist counts t p =
 -- Refusal: no radius passes only if every choice reaches farther than the last radius; and no piece counts is said only
 -- where none does, and where none does it is said, unless the shelf or a list is too short.
 pub record Refused {P : Type 0} (dist : Distance P) (counts : Rule) (t : Story P) (e : Refusal) : Type 0 where
-  pub beyond : e ≡ NoRadiusPasses → (choice : List P) → Choice (t .settings .k) choice → lastOf 0 (t .radii) < reach dist choice (window counts t)
+  pub beyond : e ≡ NoRadiusPasses → (choice : List P) → Choice (t .settings .k) choice
+      → lastOf 0 (t .radii) < reach dist choice (window counts t)
   pub nothing : e ≡ NothingCounts → window counts t ≡ []
   pub exactly : window counts t ≡ [] → (e ≡ NothingCounts) ⊎ ((e ≡ ShelfTooShort) ⊎ (e ≡ ListTooShort))
 
