@@ -1,13 +1,15 @@
 -- What a pick answers at a radius that passes: its centres cover the window, and no choice beats it by more.
 use mathlib.Core.Path.{_≡_, refl, sym, subst}
 use mathlib.Core.Bool.{true}
-use mathlib.Core.List.{List, [], _∷_, map}
+use mathlib.Core.List.{List, [], _∷_, _++_, map}
 use mathlib.Core.Logic.{inl, inr}
 use native.Mathlib.Nat.{mul-le-mul-left}
 use native.Mathlib.Omega.{arith}
 use Prim.Native.Nat.{ℕ, _+_, _*_, _≤_}
 use lib.Dec.{leb}
 use lib.ListN.{length, drop}
+use Rattle.std.specs.declared.option.Option.{Option}
+use Rattle.std.specs.declared.option.Option.the-variants.{Some, None}
 use Rattle.std.specs.shelf.Lists.{All, Has}
 use Rattle.std.proofs.shelf.Elements.{all-weaker, all-has}
 use Rattle.std.proofs.shelf.Lists.{length-map, take-at}
@@ -21,16 +23,19 @@ use Rattle.rules.proofs.Histories.{Days, Dated}
 use Rattle.rules.proofs.Sound.{Living}
 use Rattle.rules.proofs.Standing.{used-living, stands}
 use Rattle.rules.proofs.Trials.{Passed}
-use Rattle.rules.proofs.Windows.{counting-all, metric-apart, lone, covers-places}
+use Rattle.rules.proofs.Windows.{BeatsFloor, counting-all, metric-apart, lone, covers-places}
 use Rattle.rules.specs.Calls.{toldBy, writtenBy}
 use Rattle.rules.specs.Laws.{Lawful}
 use Rattle.rules.specs.Picking.{grainBy, used, slack, apart, choose, Taken, pickAmong}
-use Rattle.rules.specs.Promises.{Story, Arrived, window, Named, WithinFactor, Answered}
+use Rattle.rules.specs.Promises.{Story, Arrived, window, Named, Cover, BeyondFloor, WithinFactor, Answered}
 use Rattle.rules.specs.Views.{Row}
 use Rattle.rules.specs.Words.{Any}
 use Rattle.rules.specs.declared.picked.Grain.{Grain}
 use Rattle.rules.specs.declared.picked.Grain.the-variants.{Fine, Coarse}
 use Rattle.rules.specs.declared.place.Place.{Place}
+
+abbrev LivingNow : {P : Type 0} → Rule → Story P → Place P → Type 0
+LivingNow counts t x = Living counts (t .posts) (length (t .posts)) (t .day) x
 
 abbrev piecesOf : {P : Type 0} → List (Place P) → List P
 piecesOf xs = map (λ x. x .piece) xs
@@ -99,8 +104,57 @@ module _ {P : Type 0} (dist : Distance P) (metric : Metric dist) {counts : Rule}
       → Any (λ y. dist (y .piece) q ≤ slack grain (t .settings .f) (taken .row)) xs
   standing grain e xs is a q d r c =
       subst (Any (λ y. dist (y .piece) q ≤ slack grain (t .settings .f) (taken .row))) is
-      (stands dist metric law (t .settings) (t .posts) (length (t .posts)) (t .day) dated (taken .row)
-      (p .sound) few-attractors grain e a q d r c)
+      (stands dist metric law (t .settings) (t .posts) (length (t .posts)) (t .day) dated (taken .row) (p .sound)
+      few-attractors grain e a q d r c)
+
+  -- centres chosen from a list of pieces that count, each piece that counts having one that stands for it
+  module _ (grain : Grain) (xs cs : List (Place P)) (good : Good (apart dist) (t .settings .k) xs cs)
+      (living : All (LivingNow counts t) xs) where
+    cover-of : ((a : ℕ) (q : P) (d : ℕ) → Arrived a q d (t .posts) → counts a d (length (t .posts)) (t .day) ≡ true
+        → Any (λ y. dist (y .piece) q ≤ slack grain (t .settings .f) (taken .row)) xs)
+        → (answers : List ℕ) (floor : Option ℕ)
+        → Cover dist counts t (record {
+          count = length cs;
+          radius = reach (apart dist) cs xs + slack grain (t .settings .f) (taken .row);
+          floor = floor;
+          grain = grain;
+        }) (map (λ y. y .arrival) cs ++ drop (length cs) answers)
+    cover-of stand answers floor =
+        let those : All (LivingNow counts t) cs =
+        all-weaker (Has xs) (LivingNow counts t) (λ y h. all-has (LivingNow counts t) xs y living h) cs
+        (good .members) in
+        let front = take-at (map (λ y. y .arrival) cs) (drop (length cs) answers) (length cs)
+        (length-map cs (λ y. y .arrival)) in
+        record {
+          centres = piecesOf cs;
+          named = subst (λ ns. Named counts t ns (piecesOf cs)) (sym front) (named counts t cs those);
+          all = length-map cs (λ y. y .piece);
+          few = omega (arith, good .some, good .few, length-map cs (λ y. y .piece));
+          covers =
+              counting-all counts (length (t .posts)) (t .day)
+              (Near dist (reach (apart dist) cs xs + slack grain (t .settings .f) (taken .row)) (piecesOf cs)) (t .posts)
+              (λ a q d r c.
+              near-through dist metric (reach (apart dist) cs xs) (slack grain (t .settings .f) (taken .row)) cs xs q
+              (good .covered) (stand a q d r c));
+        }
+
+    factor-of : (choice : List P) → Choice (t .settings .k) choice
+        → WithinFactor grain (t .settings .f) (reach (apart dist) cs xs + slack grain (t .settings .f) (taken .row))
+        (reach dist choice (window counts t))
+    factor-of choice few =
+        let r = reach dist choice (window counts t) in
+        let cover = choice-covers dist (t .settings .k) choice (window counts t) few in
+        let spread : reach (apart dist) cs xs ≤ 2 * r =
+        good .best (map lone choice) r (omega (arith, few .1, length-map choice lone))
+        (covers-places dist counts (t .posts) (length (t .posts)) (t .day) r choice xs living cover) in
+        factor grain (t .settings .f) (reach (apart dist) cs xs) r (taken .row) spread (p .slight choice r (few .1) cover)
+
+  floor-of : (floor : Option ℕ) → BeatsFloor dist (t .settings .k) (window counts t) floor
+      → BeyondFloor dist counts t floor
+  floor-of None beats = tt
+  floor-of (Some b) beats =
+      λ choice few. beats choice (reach dist choice (window counts t)) (few .1)
+      (choice-covers dist (t .settings .k) choice (window counts t) few)
 
   pub among : (grain : Grain) → grainBy counts (length (t .posts)) (t .day) (taken .row .lost) ≡ grain
       → (xs : List (Place P)) → used grain (taken .row) ≡ xs → (answers : List ℕ)
@@ -116,46 +170,12 @@ module _ {P : Type 0} (dist : Distance P) (metric : Metric dist) {counts : Rule}
   }
   among grain e (x ∷ xs) is answers =
       let cs = farthestFirst (apart dist) (t .settings .k) (x ∷ xs) in
-      let good : Good (apart dist) (t .settings .k) (x ∷ xs) cs = farthest-first (Place P) (apart dist)
-      (metric-apart metric) (t .settings .k) (x ∷ xs) some (omega arith) in
-      let living : All (Living counts (t .posts) (length (t .posts)) (t .day)) (x ∷ xs) =
-      subst (All (Living counts (t .posts) (length (t .posts)) (t .day))) is
+      let good = farthest-first (Place P) (apart dist) (metric-apart metric) (t .settings .k) (x ∷ xs) some (omega arith) in
+      let living : All (LivingNow counts t) (x ∷ xs) =
+      subst (All (LivingNow counts t)) is
       (used-living dist metric law (t .settings) (t .posts) (length (t .posts)) (t .day) dated (taken .row)
-      (p .sound) grain) in
-      let those : All (Living counts (t .posts) (length (t .posts)) (t .day)) cs =
-      all-weaker (Has (x ∷ xs)) (Living counts (t .posts) (length (t .posts)) (t .day))
-      (λ y h. all-has (Living counts (t .posts) (length (t .posts)) (t .day)) (x ∷ xs) y living h) cs
-      (good .members) in (
-        record {
-          centres = piecesOf cs;
-          named =
-              subst (λ ns. Named counts t ns (piecesOf cs))
-              (sym
-              (take-at (map (λ y. y .arrival) cs) (drop (length cs) answers) (length cs)
-              (length-map cs (λ y. y .arrival))))
-              (named counts t cs those);
-          all = length-map cs (λ y. y .piece);
-          few = (
-            omega (arith, good .some, length-map cs (λ y. y .piece)),
-            omega
-                (arith, good .few, length-map cs (λ y. y .piece)),
-          );
-          covers =
-              counting-all counts (length (t .posts)) (t .day)
-              (Near dist (reach (apart dist) cs (x ∷ xs) + slack grain (t .settings .f) (taken .row))
-              (piecesOf cs))
-              (t .posts)
-              (λ a q d r c. near-through dist metric (reach (apart dist) cs (x ∷ xs))
-              (slack grain (t .settings .f) (taken .row)) cs (x ∷ xs) q (good .covered)
-              (standing grain e (x ∷ xs) is a q d r c));
-        },
-        λ choice few.
-            let cover = choice-covers dist (t .settings .k) choice (window counts t) few in
-            factor grain (t .settings .f) (reach (apart dist) cs (x ∷ xs)) (reach dist choice (window counts t))
-            (taken .row)
-            (good .best (map lone choice) (reach dist choice (window counts t))
-            (omega (arith, few .1, length-map choice lone))
-            (covers-places dist counts (t .posts) (length (t .posts)) (t .day)
-            (reach dist choice (window counts t)) choice (x ∷ xs) living cover))
-            (p .slight choice (reach dist choice (window counts t)) (few .1) cover),
+      (p .sound) grain) in (
+        cover-of grain (x ∷ xs) cs good living (standing grain e (x ∷ xs) is) answers (taken .floor),
+        factor-of grain (x ∷ xs) cs good living,
+        floor-of (taken .floor) (p .below),
       )

@@ -20,7 +20,7 @@ use Rattle.cover.proofs.Pigeons.{pigeons}
 use Rattle.cover.specs.Distances.{Distance, Metric, Covers, Spaced}
 use Rattle.rules.proofs.Somes.{Pairwise}
 use Rattle.rules.proofs.Sound.{Living, Ahead, Tied, Coarse, Sound}
-use Rattle.rules.proofs.Windows.{metric-apart, lone, covers-places, Beats}
+use Rattle.rules.proofs.Windows.{metric-apart, lone, covers-places, Beats, BeatsFloor}
 use Rattle.rules.specs.Limits.{allowed}
 use Rattle.rules.specs.Picking.{anyWithin, choose, passes, apart, Taken, takenAfter}
 use Rattle.rules.specs.Promises.{counting}
@@ -121,6 +121,7 @@ module _ {P : Type 0} (dist : Distance P) (metric : Metric dist) (counts : Rule)
     pub sound : Sound dist counts set h m n (t .row)
     pub passes : passes dist (set .k) (t .row) ≡ true
     pub slight : Slight dist (set .k) (counting counts m n h) (t .row .radius)
+    pub below : BeatsFloor dist (set .k) (counting counts m n h) (t .floor)
 
   abbrev pub Outcome : ℕ → Option (Taken P) → Type 0
   Outcome last None = Beats dist (set .k) (counting counts m n h) last
@@ -136,8 +137,8 @@ module _ {P : Type 0} (dist : Distance P) (metric : Metric dist) (counts : Rule)
             (record {
               sound = sound .0;
               passes = e;
-              slight = λ choice r few cover. allowed-twice b (row .radius) r
-                  (grow .0) (beats choice r few cover);
+              slight = λ choice r few cover. allowed-twice b (row .radius) r (grow .0) (beats choice r few cover);
+              below = beats;
             })
         | inr e ↦ rw e
             (taken-after (row .radius) rows (failed dist metric counts (set .k) h m n row (sound .0 .coarse) e)
@@ -150,7 +151,7 @@ module _ {P : Type 0} (dist : Distance P) (metric : Metric dist) (counts : Rule)
   taken-first row rows grow sound =
       elim (cases-bool (passes dist (set .k) row)) [
         | inl e ↦ rw e
-            (record { sound = sound .0; passes = e; slight = λ choice r few cover. omega (arith, grow .0) })
+            (record { sound = sound .0; passes = e; slight = λ choice r few cover. omega (arith, grow .0); below = tt })
         | inr e ↦ rw e
             (taken-after (row .radius) rows (failed dist metric counts (set .k) h m n row (sound .0 .coarse) e)
             (grow .1) (sound .1))

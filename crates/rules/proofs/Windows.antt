@@ -6,6 +6,8 @@ use mathlib.Core.Logic.{inl, inr}
 use native.Mathlib.Omega.{arith}
 use Prim.Native.Nat.{ℕ, suc, _<_, _≤_}
 use lib.ListN.{length}
+use Rattle.std.specs.declared.option.Option.{Option}
+use Rattle.std.specs.declared.option.Option.the-variants.{Some, None}
 use Rattle.std.specs.shelf.Lists.{All}
 use Rattle.std.proofs.shelf.Elements.{all-weaker}
 use Rattle.term.specs.Formulas.{Rule}
@@ -75,3 +77,8 @@ covers-places dist counts h m n r choice xs living cover =
 -- Every choice of at most k pieces leaves one of xs farther than b.
 abbrev pub Beats : {P : Type 0} → Distance P → ℕ → List P → ℕ → Type 0
 Beats {P} dist k xs b = (choice : List P) (r : ℕ) → length choice ≤ k → Covers dist r choice xs → b < r
+
+-- and so of a floor, where there is one
+abbrev pub BeatsFloor : {P : Type 0} → Distance P → ℕ → List P → Option ℕ → Type 0
+BeatsFloor dist k xs None = Unit {0}
+BeatsFloor dist k xs (Some b) = Beats dist k xs b

@@ -102,16 +102,25 @@ Factor {P} dist counts t p =
     (choice : List P) → Choice (t .settings .k) choice
     → WithinFactor (p .grain) (t .settings .f) (p .radius) (reach dist choice (window counts t))
 
+-- every choice of one to k pieces, posted or not, reaches farther than b
+abbrev pub Beyond : {P : Type 0} → Distance P → Rule → Story P → ℕ → Type 0
+Beyond {P} dist counts t b = (choice : List P) → Choice (t .settings .k) choice → b < reach dist choice (window counts t)
+
+-- what a floor says, where there is one
+abbrev pub BeyondFloor : {P : Type 0} → Distance P → Rule → Story P → Option ℕ → Type 0
+BeyondFloor dist counts t None = Unit {0}
+BeyondFloor dist counts t (Some b) = Beyond dist counts t b
+
 -- Refusal: no radius passes only if every choice reaches farther than the last radius; and no piece counts is said only
 -- where none does, and where none does it is said, unless the shelf or a list is too short.
 pub record Refused {P : Type 0} (dist : Distance P) (counts : Rule) (t : Story P) (e : Refusal) : Type 0 where
-  pub beyond : e ≡ NoRadiusPasses → (choice : List P) → Choice (t .settings .k) choice
-      → lastOf 0 (t .radii) < reach dist choice (window counts t)
+  pub beyond : e ≡ NoRadiusPasses → Beyond dist counts t (lastOf 0 (t .radii))
   pub nothing : e ≡ NothingCounts → window counts t ≡ []
   pub exactly : window counts t ≡ [] → (e ≡ NothingCounts) ⊎ ((e ≡ ShelfTooShort) ⊎ (e ≡ ListTooShort))
 
 abbrev pub Answered : {P : Type 0} → Distance P → Rule → Story P → Result Picked Refusal → List ℕ → Type 0
-Answered dist counts t (Ok p) answers = Cover dist counts t p answers × Factor dist counts t p
+Answered dist counts t (Ok p) answers =
+    Cover dist counts t p answers × Factor dist counts t p × BeyondFloor dist counts t (p .floor)
 Answered dist counts t (Err e) answers = Refused dist counts t e
 
 -- what a pick promises, after what happened before it
