@@ -1,0 +1,3 @@
+pub mod Pigeons
+pub mod Nearest
+pub mod Farthest

@@ -1,0 +1,9 @@
+pub mod Words
+pub mod Views
+pub mod Limits
+pub mod Steps
+pub mod Picking
+pub mod Calls
+pub mod Laws
+pub mod Runs
+pub mod Promises
