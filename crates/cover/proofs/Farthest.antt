@@ -1,12 +1,9 @@
 -- Farthest-first: what holds of the centres while they are chosen, and at the end.
-use mathlib.Core.Path.{_≡_, refl, ap, sym, subst}
-use mathlib.Core.Bool.{true, false}
+use mathlib.Core.Path.{_≡_, subst}
 use mathlib.Core.List.{List, [], _∷_, _++_}
 use mathlib.Core.Logic.{_⊎_, inl, inr}
-use native.Mathlib.Nat.{le-refl}
 use native.Mathlib.Omega.{arith}
-use Prim.Native.Nat.{ℕ, zero, suc, _+_, _*_, _<_, _≤_}
-use lib.Dec.{eqb}
+use Prim.Native.Nat.{ℕ, zero, suc, _+_, _≤_}
 use lib.ListN.{length, getD}
 use Rattle.std.specs.shelf.Lists.{All, Has}
 use Rattle.std.proofs.shelf.Elements.{all-weaker, all-push, all-has, has-getD}
@@ -14,25 +11,31 @@ use Rattle.std.proofs.shelf.Lists.{length-push}
 use Rattle.std.proofs.shelf.Ways.{eqb-tells}
 use Rattle.cover.proofs.Nearest.{nearest-least, nearest-push, covers-reach, greatest-falls, greatest-place}
 use Rattle.cover.proofs.Pigeons.{pigeons}
-use Rattle.cover.specs.Choices.{FarthestFirst, Good, nearest, greatest, greatestAt, reach, onward, farthestFirst}
-use Rattle.cover.specs.Distances.{Metric, Near, Covers, Spaced}
+use Rattle.cover.specs.Choices.{FarthestFirst, Good, nearest, greatestAt, reach, onward}
+use Rattle.cover.specs.Distances.{Distance, Metric, Near, Spaced}
 
-pub spaced-less : {P : Type 0} (dist : P → P → ℕ) (d e : ℕ) → d ≤ e → (xs : List P) → Spaced dist e xs → Spaced dist d xs
+pub spaced-less : {P : Type 0} (dist : Distance P) (d e : ℕ) → d ≤ e → (xs : List P) → Spaced dist e xs
+    → Spaced dist d xs
 spaced-less dist d e h [] s = tt
-spaced-less dist d e h (x ∷ xs) s =
-    (all-weaker (λ y. e ≤ dist x y) (λ y. d ≤ dist x y) (λ y k. omega arith) xs (s .0), spaced-less dist d e h xs (s .1))
+spaced-less dist d e h (x ∷ xs) s = (
+  all-weaker (λ y. e ≤ dist x y) (λ y. d ≤ dist x y) (λ y k. omega arith) xs (s .0),
+  spaced-less dist d e h xs
+      (s .1),
+)
 
-pub spaced-push : {P : Type 0} (dist : P → P → ℕ) (e : ℕ) (xs : List P) (y : P) → Spaced dist e xs → All (λ x. e ≤ dist x y) xs → Spaced dist e (xs ++ (y ∷ []))
+pub spaced-push : {P : Type 0} (dist : Distance P) (e : ℕ) (xs : List P) (y : P) → Spaced dist e xs
+    → All (λ x. e ≤ dist x y) xs → Spaced dist e (xs ++ (y ∷ []))
 spaced-push dist e [] y s h = (tt, tt)
-spaced-push dist e (x ∷ xs) y s h = (all-push (λ z. e ≤ dist x z) xs y (s .0) (h .0), spaced-push dist e xs y (s .1) (h .1))
+spaced-push dist e (x ∷ xs) y s h =
+    (all-push (λ z. e ≤ dist x z) xs y (s .0) (h .0), spaced-push dist e xs y (s .1) (h .1))
 
 -- The centres c ∷ cs, chosen from xs so far: they are as far apart as they reach.
-record Going {P : Type 0} (dist : P → P → ℕ) (xs cs : List P) : Type 0 where
+record Going {P : Type 0} (dist : Distance P) (xs cs : List P) : Type 0 where
   some : 1 ≤ length cs
   members : All (Has xs) cs
   spaced : Spaced dist (reach dist cs xs) cs
 
-module _ {P : Type 0} (dist : P → P → ℕ) (m : Metric dist) (x : P) (xs : List P) (full : 1 ≤ length xs) where
+module _ {P : Type 0} (dist : Distance P) (m : Metric dist) (x : P) (xs : List P) (full : 1 ≤ length xs) where
   next : List P → P
   next cs = getD xs (greatestAt (nearest dist cs) xs) x
 
@@ -56,12 +59,14 @@ module _ {P : Type 0} (dist : P → P → ℕ) (m : Metric dist) (x : P) (xs : L
     members = all-push (Has xs) (c ∷ cs) (next (c ∷ cs)) (g .members) (next-has (c ∷ cs));
     spaced =
         spaced-less dist _ _
-        (greatest-falls (nearest dist ((c ∷ cs) ++ (next (c ∷ cs) ∷ []))) (nearest dist (c ∷ cs)) (nearest-push dist c cs (next (c ∷ cs))) xs)
+        (greatest-falls (nearest dist ((c ∷ cs) ++ (next (c ∷ cs) ∷ []))) (nearest dist (c ∷ cs))
+        (nearest-push dist c cs (next (c ∷ cs))) xs)
         ((c ∷ cs) ++ (next (c ∷ cs) ∷ [])) (next-spaced (c ∷ cs) g);
   }
 
   -- there are k centres, or all pieces are at 0 from one
-  going-good : (k : ℕ) (cs : List P) → Going dist xs cs → (length cs ≡ k) ⊎ ((reach dist cs xs ≡ 0) × (length cs ≤ k)) → Good dist k xs cs
+  going-good : (k : ℕ) (cs : List P) → Going dist xs cs → (length cs ≡ k) ⊎ ((reach dist cs xs ≡ 0) × (length cs ≤ k))
+      → Good dist k xs cs
   going-good k [] g done = absurd (omega (arith, g .some))
   going-good k (c ∷ cs) g done = record {
     some = g .some;
@@ -70,21 +75,25 @@ module _ {P : Type 0} (dist : P → P → ℕ) (m : Metric dist) (x : P) (xs : L
     covered = covers-reach dist c cs xs;
     best = λ choice r few cover. elim done [
       | inl h ↦
-          pigeons P dist m (reach dist (c ∷ cs) xs) r ((c ∷ cs) ++ (next (c ∷ cs) ∷ [])) choice (next-spaced (c ∷ cs) g)
+          pigeons P dist m (reach dist (c ∷ cs) xs) r ((c ∷ cs) ++ (next (c ∷ cs) ∷ [])) choice
+          (next-spaced (c ∷ cs) g)
           (omega (arith, length-push (c ∷ cs) (next (c ∷ cs))))
-          (all-weaker (Has xs) (Near dist r choice) (λ y h. all-has (Near dist r choice) xs y cover h) ((c ∷ cs) ++ (next (c ∷ cs) ∷ []))
+          (all-weaker (Has xs) (Near dist r choice) (λ y h. all-has (Near dist r choice) xs y cover h)
+          ((c ∷ cs) ++ (next (c ∷ cs) ∷ []))
           (all-push (Has xs) (c ∷ cs) (next (c ∷ cs)) (g .members) (next-has (c ∷ cs))))
       | inr h ↦ omega (arith, h .0)
     ];
   }
 
-  onward-good : (k n : ℕ) (cs : List P) → length cs + n ≡ k → Going dist xs cs → Good dist k xs (onward dist x xs n cs)
+  onward-good : (k n : ℕ) (cs : List P) → length cs + n ≡ k → Going dist xs cs
+      → Good dist k xs (onward dist x xs n cs)
   unfolding next
   onward-good k zero cs e g = going-good k cs g (inl (omega arith))
   onward-good k (suc n) cs e g =
       elim (eqb-tells (reach dist cs xs) 0) [
         | inl t ↦ rw (t .0, onward) (going-good k cs g (inr (t .1, omega arith)))
-        | inr t ↦ rw (t .0, onward) (onward-good k n (cs ++ (next cs ∷ [])) (omega (arith, length-push cs (next cs))) (going-more cs g))
+        | inr t ↦ rw (t .0, onward)
+            (onward-good k n (cs ++ (next cs ∷ [])) (omega (arith, length-push cs (next cs))) (going-more cs g))
       ]
 
 pub farthest-first : (P : Type 0) → FarthestFirst P

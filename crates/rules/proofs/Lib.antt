@@ -5,6 +5,17 @@ pub mod Orphans
 pub mod Sound
 pub mod Expiring
 pub mod Attracting
+pub mod Cleaning
 pub mod Enrolling
 pub mod Refining
 pub mod Entering
+pub mod Windows
+pub mod Trials
+pub mod Standing
+pub mod Picks
+pub mod Reasons
+pub mod Stages
+pub mod Keeping
+pub mod Room
+pub mod Refusing
+pub mod Upheld

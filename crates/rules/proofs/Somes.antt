@@ -4,7 +4,7 @@ use mathlib.Core.Bool.{Bool, true, false, cond}
 use mathlib.Core.List.{List, [], _∷_, _++_}
 use mathlib.Core.Logic.{_⊎_, inl, inr}
 use native.Mathlib.Omega.{arith}
-use Prim.Native.Nat.{ℕ, suc, _<_, _≤_}
+use Prim.Native.Nat.{_<_, _≤_}
 use lib.ListN.{length}
 use Rattle.std.specs.shelf.Lists.{All, kept-by}
 use Rattle.std.proofs.shelf.Tests.{cases-bool}
@@ -56,12 +56,14 @@ module _ {X : Type 0} where
   any-of-kept C f [] c = c
   any-of-kept C f (x ∷ xs) c = go (f x) (any-of-kept C f xs) c
     where
-      go : (b : Bool) → (Any C (kept-by f xs) → Any C xs) → Any C (cond b (x ∷ kept-by f xs) (kept-by f xs)) → Any C (x ∷ xs)
+      go : (b : Bool) → (Any C (kept-by f xs) → Any C xs) → Any C (cond b (x ∷ kept-by f xs) (kept-by f xs))
+          → Any C (x ∷ xs)
       go true rest c = elim c [ inl h ↦ inl h | inr h ↦ inr (rest h) ]
       go false rest c = inr (rest c)
 
   -- a filter that keeps all that are such leaves one that is
-  pub any-stays : (C Q : X → Type 0) (f : X → Bool) → ((x : X) → Q x → C x → f x ≡ true) → (xs : List X) → All Q xs → Any C xs → Any C (kept-by f xs)
+  pub any-stays : (C Q : X → Type 0) (f : X → Bool) → ((x : X) → Q x → C x → f x ≡ true) → (xs : List X) → All Q xs
+      → Any C xs → Any C (kept-by f xs)
   any-stays C Q f h [] q c = c
   any-stays C Q f h (x ∷ xs) q c =
       elim c [
@@ -79,13 +81,19 @@ module _ {X : Type 0} where
 
   pub kept-fewer : (f : X → Bool) (xs : List X) → length (kept-by f xs) ≤ length xs
   kept-fewer f [] = omega arith
-  kept-fewer f (x ∷ xs) = elim (cases-bool (f x)) [ inl e ↦ rw e (omega (arith, kept-fewer f xs)) | inr e ↦ rw e (omega (arith, kept-fewer f xs)) ]
+  kept-fewer f (x ∷ xs) = elim (cases-bool (f x))
+      [ inl e ↦ rw e (omega (arith, kept-fewer f xs)) | inr e ↦ rw e (omega (arith, kept-fewer f xs)) ]
 
   -- what is kept has passed
-  pub all-kept-with : (P Q : X → Type 0) (f : X → Bool) → ((x : X) → P x → f x ≡ true → Q x) → (xs : List X) → All P xs → All Q (kept-by f xs)
+  pub all-kept-with : (P Q : X → Type 0) (f : X → Bool) → ((x : X) → P x → f x ≡ true → Q x) → (xs : List X)
+      → All P xs → All Q (kept-by f xs)
   all-kept-with P Q f h [] p = tt
   all-kept-with P Q f h (x ∷ xs) p =
-      elim (cases-bool (f x)) [ inl e ↦ rw e (h x (p .0) e, all-kept-with P Q f h xs (p .1)) | inr e ↦ rw e (all-kept-with P Q f h xs (p .1)) ]
+      elim (cases-bool (f x)) [
+        | inl e ↦ rw e (h x (p .0) e, all-kept-with P Q f h xs (p .1))
+        | inr e ↦ rw e
+            (all-kept-with P Q f h xs (p .1))
+      ]
 
   -- a filter that all pass leaves the list
   pub kept-all : (f : X → Bool) (xs : List X) → All (λ x. f x ≡ true) xs → kept-by f xs ≡ xs
@@ -103,7 +111,8 @@ module _ {X : Type 0} where
         | inr e ↦ rw e (pairwise-kept R f xs (p .1))
       ]
 
-  pub pairwise-weaker : (R S : X → X → Type 0) → ((x y : X) → R x y → S x y) → (xs : List X) → Pairwise R xs → Pairwise S xs
+  pub pairwise-weaker : (R S : X → X → Type 0) → ((x y : X) → R x y → S x y) → (xs : List X) → Pairwise R xs
+      → Pairwise S xs
   pairwise-weaker R S f [] p = tt
   pairwise-weaker R S f (x ∷ xs) p = (go xs (p .0), pairwise-weaker R S f xs (p .1))
     where
@@ -111,7 +120,8 @@ module _ {X : Type 0} where
       go [] h = tt
       go (y ∷ ys) h = (f x y (h .0), go ys (h .1))
 
-  pub pairwise-push : (R : X → X → Type 0) (xs : List X) (y : X) → Pairwise R xs → All (λ x. R x y) xs → Pairwise R (xs ++ (y ∷ []))
+  pub pairwise-push : (R : X → X → Type 0) (xs : List X) (y : X) → Pairwise R xs → All (λ x. R x y) xs
+      → Pairwise R (xs ++ (y ∷ []))
   pairwise-push R [] y p h = (tt, tt)
   pairwise-push R (x ∷ xs) y p h = (go xs (p .0), pairwise-push R xs y (p .1) (h .1))
     where

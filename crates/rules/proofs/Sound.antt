@@ -1,20 +1,20 @@
 -- What is true of every radius after every call of a run: the invariant, over the posts h, at m posts and day n.
-use mathlib.Core.Path.{_≡_, refl}
-use mathlib.Core.Bool.{true, false}
-use mathlib.Core.List.{List, [], _∷_}
-use mathlib.Core.Logic.{_⊎_, inl, inr}
-use native.Mathlib.Omega.{arith}
+use mathlib.Core.Path.{_≡_}
+use mathlib.Core.Bool.{true}
+use mathlib.Core.List.{List}
+use mathlib.Core.Logic.{_⊎_}
 use Prim.Native.Nat.{ℕ, suc, _*_, _<_, _≤_}
 use lib.ListN.{length}
 use Rattle.std.specs.declared.option.Option.{Option}
 use Rattle.std.specs.declared.option.Option.the-variants.{Some, None}
 use Rattle.std.specs.shelf.Lists.{All}
+use Rattle.cover.specs.Distances.{Distance}
 use Rattle.term.specs.Formulas.{Rule}
 use Rattle.term.specs.declared.window.Stamp.{Stamp}
-use Rattle.rules.proofs.Orphans.{Rising, Split}
+use Rattle.rules.proofs.Orphans.{Split}
 use Rattle.rules.proofs.Somes.{Pairwise}
-use Rattle.rules.specs.Promises.{Arrived, last, older}
-use Rattle.rules.specs.Steps.{Distance, step}
+use Rattle.rules.specs.Promises.{Arrived}
+use Rattle.rules.specs.Steps.{step}
 use Rattle.rules.specs.Views.{Settings, Entry, Row}
 use Rattle.rules.specs.Words.{Any}
 use Rattle.rules.specs.declared.place.Place.{Place}
@@ -48,13 +48,15 @@ abbrev pub Relevant : {P : Type 0} → ℕ → List (Place P) → ℕ → Type 0
 Relevant k att a = (length att ≤ k) ⊎ Any (λ v. v .arrival ≤ a) att
 
 -- Attractors and representatives. The orphans as new as t are few.
-pub record Coarse {P : Type 0} (dist : Distance P) (counts : Rule) (k g t : ℕ) (h : List (P × ℕ)) (m n : ℕ) (att rep : List (Place P)) : Type 0 where
+pub record Coarse {P : Type 0} (dist : Distance P) (counts : Rule) (k g t : ℕ) (h : List (P × ℕ)) (m n : ℕ)
+    (att rep : List (Place P)) : Type 0 where
   pub living : All (Living counts h m n) att
   pub apart : Pairwise (Ahead dist g) att
   pub few : length att ≤ suc k
   pub tied : All (Tied dist counts g h m n) rep
   pub split : Split k t att rep
-  pub covered : (q : P) (a d : ℕ) → Arrived a q d h → counts a d m n ≡ true → Relevant k att a → Any (Serves dist g h q a) rep
+  pub covered : (q : P) (a d : ℕ) → Arrived a q d h → counts a d m n ≡ true → Relevant k att a
+      → Any (Serves dist g h q a) rep
 
 -- a fine entry: its latest piece counts and is within s of the first
 abbrev pub Close : {P : Type 0} → Distance P → Rule → ℕ → List (P × ℕ) → ℕ → ℕ → Entry P → Type 0
@@ -67,19 +69,24 @@ Reaches dist s q a e = (a ≤ e .latest .arrival) × (dist (e .first .piece) q �
 -- the lost mark was posted, and is no newer than any entry
 abbrev pub Marked : {P : Type 0} → List (P × ℕ) → List (Entry P) → Option Stamp → Type 0
 Marked h fine None = Unit {0}
-Marked {P} h fine (Some mark) = ((p : P) × Arrived (mark .arrival) p (mark .day) h) × All (λ e. mark .arrival ≤ e .latest .arrival) fine
+Marked {P} h fine (Some mark) = ((p : P) × Arrived (mark .arrival) p (mark .day) h) × All
+    (λ e. mark .arrival ≤ e .latest .arrival) fine
 
 -- arrival a is newer than the lost mark
 abbrev pub Above : Option Stamp → ℕ → Type 0
 Above None a = Unit {0}
 Above (Some mark) a = mark .arrival < a
 
-pub record Fine {P : Type 0} (dist : Distance P) (counts : Rule) (k limit s : ℕ) (h : List (P × ℕ)) (m n : ℕ) (att : List (Place P)) (fine : List (Entry P)) (lost : Option Stamp) : Type 0 where
+pub record Fine {P : Type 0} (dist : Distance P) (counts : Rule) (k limit s : ℕ) (h : List (P × ℕ)) (m n : ℕ)
+    (att : List (Place P)) (fine : List (Entry P)) (lost : Option Stamp) : Type 0 where
   pub near : All (Close dist counts s h m n) fine
   pub few : length fine ≤ limit
   pub marked : Marked h fine lost
-  pub covered : (q : P) (a d : ℕ) → Arrived a q d h → counts a d m n ≡ true → Relevant k att a → Above lost a → Any (Reaches dist s q a) fine
+  pub covered : (q : P) (a d : ℕ) → Arrived a q d h → counts a d m n ≡ true → Relevant k att a → Above lost a
+      → Any (Reaches dist s q a) fine
 
-pub record Sound {P : Type 0} (dist : Distance P) (counts : Rule) (set : Settings) (h : List (P × ℕ)) (m n : ℕ) (row : Row P) : Type 0 where
+pub record Sound {P : Type 0} (dist : Distance P) (counts : Rule) (set : Settings) (h : List (P × ℕ)) (m n : ℕ)
+    (row : Row P) : Type 0 where
   pub coarse : Coarse dist counts (set .k) (row .radius) 0 h m n (row .attractors) (row .representatives)
-  pub fine : Fine dist counts (set .k) (set .fineLimit) (step (set .f) (row .radius)) h m n (row .attractors) (row .fine) (row .lost)
+  pub fine : Fine dist counts (set .k) (set .fineLimit) (step (set .f) (row .radius)) h m n (row .attractors)
+      (row .fine) (row .lost)

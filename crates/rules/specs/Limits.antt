@@ -36,7 +36,17 @@ attractorRoom k = k + 1
 abbrev pub representativeRoom : ℕ → ℕ
 representativeRoom k = 2 * k + 2
 
--- The part of the shelf that one radius has: attractors, coarse representatives, first pieces, latest pieces.
+-- The part of the shelf that one radius has: attractors, then coarse representatives, as many first pieces as the fine
+-- limit says, and as many latest pieces. Where the lists after the first begin, and how many places the part has.
+abbrev pub representativesAt : Settings → ℕ
+representativesAt s = s .k + 1
+
+abbrev pub firstsAt : Settings → ℕ
+firstsAt s = 3 * s .k + 3
+
+abbrev pub latestsAt : Settings → ℕ
+latestsAt s = 3 * s .k + 3 + s .fineLimit
+
 abbrev pub partSize : Settings → ℕ
 partSize s = 3 * s .k + 3 + 2 * s .fineLimit
 

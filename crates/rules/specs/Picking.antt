@@ -9,11 +9,12 @@ use Rattle.std.specs.declared.option.Option.the-variants.{Some, None}
 use Rattle.std.specs.declared.result.Result.{Result}
 use Rattle.std.specs.declared.result.Result.the-variants.{Ok, Err}
 use Rattle.cover.specs.Choices.{farthestFirst, reach}
+use Rattle.cover.specs.Distances.{Distance}
 use Rattle.refusal.specs.declared.Refusal.{Refusal}
 use Rattle.refusal.specs.declared.Refusal.the-variants.{NothingCounts, NoRadiusPasses}
 use Rattle.term.specs.Formulas.{Rule}
 use Rattle.term.specs.declared.window.Stamp.{Stamp}
-use Rattle.rules.specs.Steps.{Distance, within, step}
+use Rattle.rules.specs.Steps.{within, step}
 use Rattle.rules.specs.Views.{Settings, Row, View}
 use Rattle.rules.specs.declared.picked.Grain.{Grain}
 use Rattle.rules.specs.declared.picked.Grain.the-variants.{Fine, Coarse}

@@ -11,14 +11,13 @@ use Rattle.std.specs.declared.result.Result.{Result}
 use Rattle.std.specs.declared.result.Result.the-variants.{Ok, Err}
 use Rattle.std.specs.shelf.Lists.{All}
 use Rattle.cover.specs.Choices.{Choice, reach}
-use Rattle.cover.specs.Distances.{Metric, Covers}
+use Rattle.cover.specs.Distances.{Distance, Metric, Covers}
 use Rattle.refusal.specs.declared.Refusal.{Refusal}
 use Rattle.refusal.specs.declared.Refusal.the-variants.{ShelfTooShort, ListTooShort, NothingCounts, NoRadiusPasses}
 use Rattle.term.specs.Formulas.{Rule}
 use Rattle.rules.specs.Laws.{Lawful}
 use Rattle.rules.specs.Limits.{attractorRoom, representativeRoom, needed}
 use Rattle.rules.specs.Runs.{Event, Begin, Radius, Open, Post, Turn, Find, HandOut, Pick, Stage, SettingUp, Opened, Reached}
-use Rattle.rules.specs.Steps.{Distance}
 use Rattle.rules.specs.Views.{Settings, Row}
 use Rattle.rules.specs.Words.{lastOf}
 use Rattle.rules.specs.declared.picked.Grain.{Grain}
@@ -34,23 +33,27 @@ pub record Story (P : Type 0) : Type 0 where
   pub posts : List (P × ℕ)
   pub day : ℕ
 
--- one event more
-abbrev pub told : {P : Type 0} → Event P → Story P → Story P
-told (Begin s) t = record { settings = s; radii = 0 ∷ []; places = 0; posts = []; day = 0 }
-told (Radius g (Ok u)) t = record { settings = t .settings; radii = t .radii ++ (g ∷ []); places = t .places; posts = t .posts; day = t .day }
-told (Radius g (Err e)) t = t
-told (Open places) t = record { settings = t .settings; radii = t .radii; places = places; posts = t .posts; day = t .day }
-told (Post p d (Ok u)) t = record { settings = t .settings; radii = t .radii; places = t .places; posts = (p, d) ∷ t .posts; day = d }
-told (Post p d (Err e)) t = t
-told (Turn d (Ok u)) t = record { settings = t .settings; radii = t .radii; places = t .places; posts = t .posts; day = d }
-told (Turn d (Err e)) t = t
-told (Find a r) t = t
-told (HandOut at r) t = t
-told (Pick answers work r answers′) t = t
+-- the story with one event more
+abbrev pub next : {P : Type 0} → Event P → Story P → Story P
+next (Begin s) t = record { settings = s; radii = 0 ∷ []; places = 0; posts = []; day = 0 }
+next (Radius g (Ok u)) t =
+    record { settings = t .settings; radii = t .radii ++ (g ∷ []); places = t .places; posts = t .posts; day = t .day }
+next (Radius g (Err e)) t = t
+next (Open places) t =
+    record { settings = t .settings; radii = t .radii; places = places; posts = t .posts; day = t .day }
+next (Post p d (Ok u)) t =
+    record { settings = t .settings; radii = t .radii; places = t .places; posts = (p, d) ∷ t .posts; day = d }
+next (Post p d (Err e)) t = t
+next (Turn d (Ok u)) t =
+    record { settings = t .settings; radii = t .radii; places = t .places; posts = t .posts; day = d }
+next (Turn d (Err e)) t = t
+next (Find a r) t = t
+next (HandOut at r) t = t
+next (Pick answers work r answers′) t = t
 
 abbrev pub story : {P : Type 0} → List (Event P) → Story P
 story [] = record { settings = record { k = 0; f = 0; fineLimit = 0 }; radii = []; places = 0; posts = []; day = 0 }
-story (e ∷ es) = told e (story es)
+story (e ∷ es) = next e (story es)
 
 -- The piece p was posted on day d as number a of the posts.
 pub data Arrived {P : Type 0} (a : ℕ) (p : P) (d : ℕ) : List (P × ℕ) → Type 0 where
@@ -60,7 +63,8 @@ pub data Arrived {P : Type 0} (a : ℕ) (p : P) (d : ℕ) : List (P × ℕ) → 
 -- of those posts, newest first, the pieces that count after m posts and on day n
 abbrev pub counting : {P : Type 0} → Rule → ℕ → ℕ → List (P × ℕ) → List P
 counting counts m n [] = []
-counting counts m n (x ∷ h) = cond (counts (suc (length h)) (x .1) m n) (x .0 ∷ counting counts m n h) (counting counts m n h)
+counting counts m n (x ∷ h) =
+    cond (counts (suc (length h)) (x .1) m n) (x .0 ∷ counting counts m n h) (counting counts m n h)
 
 -- The window: the posted pieces that count now.
 abbrev pub window : {P : Type 0} → Rule → Story P → List P
@@ -79,7 +83,8 @@ Named counts t (a ∷ ns) (p ∷ ps) = Counting counts t a p × Named counts t n
 
 -- Cover: the first numbers of the answer list name one to k centres that count, and every piece that counts lies
 -- within the pick's radius of one of them.
-pub record Cover {P : Type 0} (dist : Distance P) (counts : Rule) (t : Story P) (p : Picked) (answers : List ℕ) : Type 0 where
+pub record Cover {P : Type 0} (dist : Distance P) (counts : Rule) (t : Story P) (p : Picked)
+    (answers : List ℕ) : Type 0 where
   pub centres : List P
   pub named : Named counts t (take (p .count) answers) centres
   pub all : length centres ≡ p .count
@@ -97,15 +102,25 @@ Factor {P} dist counts t p =
     (choice : List P) → Choice (t .settings .k) choice
     → WithinFactor (p .grain) (t .settings .f) (p .radius) (reach dist choice (window counts t))
 
+-- every choice of one to k pieces, posted or not, reaches farther than b
+abbrev pub Beyond : {P : Type 0} → Distance P → Rule → Story P → ℕ → Type 0
+Beyond {P} dist counts t b = (choice : List P) → Choice (t .settings .k) choice → b < reach dist choice (window counts t)
+
+-- what a floor says, where there is one
+abbrev pub BeyondFloor : {P : Type 0} → Distance P → Rule → Story P → Option ℕ → Type 0
+BeyondFloor dist counts t None = Unit {0}
+BeyondFloor dist counts t (Some b) = Beyond dist counts t b
+
 -- Refusal: no radius passes only if every choice reaches farther than the last radius; and no piece counts is said only
 -- where none does, and where none does it is said, unless the shelf or a list is too short.
 pub record Refused {P : Type 0} (dist : Distance P) (counts : Rule) (t : Story P) (e : Refusal) : Type 0 where
-  pub beyond : e ≡ NoRadiusPasses → (choice : List P) → Choice (t .settings .k) choice → lastOf 0 (t .radii) < reach dist choice (window counts t)
+  pub beyond : e ≡ NoRadiusPasses → Beyond dist counts t (lastOf 0 (t .radii))
   pub nothing : e ≡ NothingCounts → window counts t ≡ []
   pub exactly : window counts t ≡ [] → (e ≡ NothingCounts) ⊎ ((e ≡ ShelfTooShort) ⊎ (e ≡ ListTooShort))
 
 abbrev pub Answered : {P : Type 0} → Distance P → Rule → Story P → Result Picked Refusal → List ℕ → Type 0
-Answered dist counts t (Ok p) answers = Cover dist counts t p answers × Factor dist counts t p
+Answered dist counts t (Ok p) answers =
+    Cover dist counts t p answers × Factor dist counts t p × BeyondFloor dist counts t (p .floor)
 Answered dist counts t (Err e) answers = Refused dist counts t e
 
 -- what a pick promises, after what happened before it
@@ -154,9 +169,11 @@ abbrev pub Fits : {P : Type 0} → Stage P → Type 0
 Fits (SettingUp u) = Unit {0}
 Fits (Opened b) = All (RowFits (b .settings)) (b .rows)
 
--- The theorem: in every run of a book, under every tape and term that obey the laws, cover, factor, refusal and room hold.
+-- In every run of a book, under a tape and a term of these meanings, cover, factor, refusal and room hold.
+abbrev pub RunsHoldUnder : (P : Type 0) → Distance P → Rule → Type 0
+RunsHoldUnder P dist counts =
+    (es : List (Event P)) (stage : Stage P) → Reached dist counts es stage → Upheld dist counts es × Fits stage
+
+-- The theorem: so it is under every tape and every term that obey the laws.
 abbrev pub RunsHold : Type 0 → Type 0
-RunsHold P =
-    (dist : Distance P) → Metric dist → (counts : Rule) → Lawful counts
-    → (es : List (Event P)) (stage : Stage P) → Reached dist counts es stage
-    → Upheld dist counts es × Fits stage
+RunsHold P = (dist : Distance P) → Metric dist → (counts : Rule) → Lawful counts → RunsHoldUnder P dist counts

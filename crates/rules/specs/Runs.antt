@@ -2,11 +2,11 @@
 use mathlib.Core.List.{List, [], _∷_}
 use Prim.Native.Nat.{ℕ}
 use Rattle.std.specs.declared.result.Result.{Result}
+use Rattle.cover.specs.Distances.{Distance}
 use Rattle.refusal.specs.declared.Refusal.{Refusal}
 use Rattle.term.specs.Formulas.{Rule}
 use Rattle.rules.specs.Calls.{BeginRule, RadiusRule, OpenRule, PostRule, TurnRule, FindRule, HandOutRule, PickRule}
 use Rattle.rules.specs.Limits.{Judged}
-use Rattle.rules.specs.Steps.{Distance}
 use Rattle.rules.specs.Views.{Settings, Setup, View}
 use Rattle.rules.specs.declared.picked.Picked.{Picked}
 

@@ -8,15 +8,12 @@ use lib.ListN.{length, drop}
 use Rattle.std.specs.declared.option.Option.{Option}
 use Rattle.std.specs.declared.option.Option.the-variants.{Some, None}
 use Rattle.std.specs.shelf.Lists.{kept-by}
+use Rattle.cover.specs.Distances.{Distance}
 use Rattle.term.specs.Formulas.{Rule}
 use Rattle.term.specs.declared.window.Stamp.{Stamp}
 use Rattle.rules.specs.Views.{Settings, Entry, Row}
 use Rattle.rules.specs.Words.{firstOf, changeFirst, least}
 use Rattle.rules.specs.declared.place.Place.{Place}
-
--- a distance between pieces
-abbrev pub Distance : Type 0 → Type 0
-Distance P = P → P → ℕ
 
 -- the pieces of two places lie within r
 abbrev pub within : {P : Type 0} → Distance P → ℕ → Place P → Place P → Bool

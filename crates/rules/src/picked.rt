@@ -7,8 +7,8 @@ pub enum Grain {
     Coarse,
 }
 
-/// The number of centres, the radius within which every piece that counts has a centre, the greatest radius
-/// that is known to be too small for any choice of as many centres, and the list that was used.
+/// The number of centres; the radius within which every piece that counts has a centre; the floor, a radius that
+/// is too small for every choice of at most k centres, absent where none was tried before; and the list used.
 #[derive(Clone, Copy, PartialEq, Eq, Debug)]
 pub struct Picked {
     pub count: usize,

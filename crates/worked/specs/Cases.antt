@@ -5,20 +5,19 @@ use mathlib.Core.List.{List, [], _∷_}
 use Prim.Native.Nat.{ℕ, zero, suc, min, _+_, _/_, _%_}
 use lib.Dec.{eqb}
 use lib.IntN.{pos, _-ℤ_}
-use lib.ListN.{replicate, length}
-use Rattle.std.specs.declared.option.Option.{Option}
+use lib.ListN.{replicate}
 use Rattle.std.specs.declared.option.Option.the-variants.{Some, None}
 use Rattle.std.specs.declared.result.Result.the-variants.{Ok, Err}
 use Rattle.grade.specs.Tables.{entry}
-use Rattle.refusal.specs.declared.Refusal.{Refusal}
 use Rattle.refusal.specs.declared.Refusal.the-variants.{RadiusNotAllowed, DayNotAllowed, NoRadiusPasses}
 use Rattle.rules.specs.Calls.{whyNotRadius, whyNotPost}
+use Rattle.rules.specs.Runs.{Opened, Reached}
 use Rattle.rules.specs.declared.picked.Grain.the-variants.{Fine, Coarse}
 use Rattle.tape.specs.Joinery.{differing}
 use Rattle.tape.specs.Limits.{limit}
 use Rattle.tape.specs.declared.hull.Panel.{Panel}
 use Rattle.term.specs.Formulas.{byNumber, byDays}
-use Rattle.worked.specs.Feeds.{hull, setUp, book, Picks}
+use Rattle.worked.specs.Feeds.{hull, lastThree, setUp, book, Picks, feed}
 
 abbrev pub highest : Panel
 highest = record { offsets = replicate 8 (pos 500000) }
@@ -48,3 +47,4 @@ pub record Worked : Type 0 where
   pub and-fine-once-the-lost-is-out : Picks 1 (0 ∷ 3 ∷ 3 ∷ 3 ∷ []) (Ok (record { count = 1; radius = 0; floor = None; grain = Fine })) (4 ∷ 9 ∷ [])
   pub a-radius-may-double : whyNotRadius (setUp 4) 8 ≡ None
   pub a-radius-must-grow : whyNotRadius (setUp 4) 4 ≡ Some RadiusNotAllowed
+  pub the-feed-is-a-run : Reached hull lastThree feed (Opened (book 4 (0 ∷ 3 ∷ 10 ∷ 4 ∷ [])))

@@ -1,6 +1,11 @@
+use mathlib.Core.List.{[], _∷_}
 use mathlib.Core.Path.{refl}
+use native.Mathlib.Omega.{arith}
 use lib.Count.{ones}
+use Rattle.rules.specs.Calls.{beginning}
+use Rattle.rules.specs.Runs.{begun, tried, opened, posted, picked}
 use Rattle.tape.specs.Hull.{widest}
+use Rattle.worked.specs.Feeds.{panel, oneCentre, entered, setUp, book}
 use Rattle.worked.proofs.worked_cases.Needs as need
 
 pub returns : need.returns
@@ -22,4 +27,24 @@ returns c = record {
   and-fine-once-the-lost-is-out = record { answer = refl; written = refl; spared = tt };
   a-radius-may-double = refl;
   a-radius-must-grow = refl;
+  the-feed-is-a-run =
+      posted (panel 4) 0
+      (picked {work′ = 0 ∷ 0 ∷ 0 ∷ 0 ∷ []} (7 ∷ 9 ∷ []) (0 ∷ 0 ∷ 0 ∷ 0 ∷ [])
+      (posted (panel 4) 1
+      (picked {work′ = 0 ∷ 0 ∷ 0 ∷ 0 ∷ []} (7 ∷ 9 ∷ []) (0 ∷ 0 ∷ 0 ∷ 0 ∷ [])
+      (posted (panel 10) 1
+      (picked {work′ = 0 ∷ 0 ∷ 0 ∷ 0 ∷ []} (7 ∷ 9 ∷ []) (0 ∷ 0 ∷ 0 ∷ 0 ∷ [])
+      (posted {b′ = book 4 (0 ∷ 3 ∷ [])} (panel 3) 1
+      (posted {b′ = book 4 (0 ∷ [])} (panel 0) 1
+      (opened 56
+      (tried {u′ = setUp 4} 4 (tried {u′ = entered (1 ∷ 2 ∷ []) (beginning (oneCentre 4))} 2 (tried {u′ = entered (1 ∷ []) (beginning (oneCentre 4))} 1 (begun (oneCentre 4) (omega arith) refl) (record { answer = refl; left = refl })) (record { answer = refl; left = refl })) (record { answer = refl; left = refl }))
+      refl)
+      (record { answer = refl; left = refl }))
+      (record { answer = refl; left = refl }))
+      (record { answer = refl; written = refl; spared = tt }))
+      (record { answer = refl; left = refl }))
+      (record { answer = refl; written = refl; spared = refl }))
+      (record { answer = refl; left = refl }))
+      (record { answer = refl; written = refl; spared = tt }))
+      (record { answer = refl; left = refl });
 }
