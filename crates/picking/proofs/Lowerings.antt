@@ -6,7 +6,7 @@ use native.Mathlib.Omega.{arith}
 use lib.ListN.{length, getD, set, take, drop}
 use Rattle.std.proofs.shelf.Lists.{drop-all, drop-more, drop-set-lt, map-more, take-all, take-append-drop, take-more, take-more-set}
 use Rattle.cover.specs.Choices.{nearest}
-use Rattle.picking.specs.Lowering.{lowered}
+use Rattle.picking.specs.Centres.{lowered}
 
 -- v, the value at i, is written
 pub measured-more : {X : Type 0} (f : X → ℕ) (xs : List X) (ns : List ℕ) (i : ℕ) (x : X) (v : ℕ) → i < length xs → length ns ≡ length xs

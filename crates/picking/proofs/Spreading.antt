@@ -9,7 +9,7 @@ use Rattle.std.proofs.shelf.Lists.{drop-more, drop-set-lt, getD-default, length
 use Rattle.std.proofs.shelf.Tests.{eq-eqb, ne-eqb}
 use Rattle.cover.specs.Choices.{farthestFirst, greatest, greatestAt, nearest, onward, reach}
 use Rattle.cover.proofs.Nearest.{greatest-place}
-use Rattle.picking.specs.Lowering.{lowered}
+use Rattle.picking.specs.Centres.{Chosen, lowered}
 use Rattle.picking.proofs.Greatest.{greatest-map, greatestAt-map}
 use Rattle.picking.proofs.Lowerings.{lowered-nearest}
 
@@ -32,12 +32,6 @@ pub record Going {P : Type 0} (dist : P → P → ℕ) (number : P → ℕ) (k :
   pub within : far .0 < length xs
   pub place : far .0 ≡ greatestAt (nearest dist centres) xs
   pub value : far .1 ≡ reach dist centres xs
-
--- what is promised at the end
-pub record Spread {P : Type 0} (dist : P → P → ℕ) (number : P → ℕ) (k : ℕ) (xs : List P) (old answers : List ℕ) (count distance : ℕ) : Type 0 where
-  pub counted : count ≡ length (farthestFirst dist k xs)
-  pub reached : distance ≡ reach dist (farthestFirst dist k xs) xs
-  pub written : answers ≡ map number (farthestFirst dist k xs) ++ drop (length (farthestFirst dist k xs)) old
 
 module _ {P : Type 0} (dist : P → P → ℕ) where
   onward-more : (x : P) (xs : List P) (n : ℕ) (cs : List P) → (reach dist cs xs ≡ 0 → ⊥)
@@ -135,7 +129,7 @@ module _ {P : Type 0} (dist : P → P → ℕ) where
   -- there are k centres, or all are at 0 from one
   pub going-ends : (number : P → ℕ) (k : ℕ) (xs : List P) (old answers work : List ℕ) (v count : ℕ) (far : ℕ × ℕ)
       → Going dist number k xs (set old 0 v) answers work count far → (k ≤ count) ⊎ (far .1 ≤ 0)
-      → Spread dist number k xs old answers count (far .1)
+      → Chosen dist number k xs old answers count (far .1)
   going-ends number k xs old answers work v count far g end =
       let cs = g .centres in
       let all : cs ≡ farthestFirst dist k xs =

@@ -1,2 +1,2 @@
 pub mod Trials
-pub mod Lowering
+pub mod Centres

@@ -1,11 +1,11 @@
 //! The centres of a pick, farthest-first.
 
-ghost use mathlib.Core.List.{_++_, map};
+ghost use mathlib.Core.List.{map};
 ghost use mathlib.Core.Path.{_≡_};
 ghost use Prim.Native.Nat.{_≤_};
-ghost use lib.ListN.{drop, length};
-ghost use Rattle.cover.specs.Choices.{farthestFirst, greatest, greatestAt, reach};
-ghost use Rattle.picking.specs.Lowering.{lowered};
+ghost use lib.ListN.{length};
+ghost use Rattle.cover.specs.Choices.{greatest, greatestAt};
+ghost use Rattle.picking.specs.Centres.{Chosen, lowered};
 ghost use Rattle.rules.specs.Picking.{apart};
 use rules::Place;
 use tape::Tape;
@@ -61,9 +61,7 @@ fn choose_from<P, T: Tape<P>>(
     requires room { ⌜ k ≤ length (now answers) ⌝ }
     requires full { ⌜ 1 ≤ length (now list) ⌝ }
     requires same { ⌜ length (now work) ≡ length (now list) ⌝ }
-    ensures count { λ r. ⌜ r .0 ≡ length (farthestFirst (apart (T·Tape .dist (now (tape .entry)))) k (now (list .entry))) ⌝ }
-    ensures spread { λ r. ⌜ r .1 ≡ reach (apart (T·Tape .dist (now (tape .entry)))) (farthestFirst (apart (T·Tape .dist (now (tape .entry)))) k (now (list .entry))) (now (list .entry)) ⌝ }
-    ensures written { λ _. ⌜ now (answers .exit) ≡ map (λ x. x .arrival) (farthestFirst (apart (T·Tape .dist (now (tape .entry)))) k (now (list .entry))) ++ drop (length (farthestFirst (apart (T·Tape .dist (now (tape .entry)))) k (now (list .entry)))) (now (answers .entry)) ⌝ }
+    ensures { λ r. ⌜ Chosen (apart (T·Tape .dist (now (tape .entry)))) (λ x. x .arrival) k (now (list .entry)) (now (answers .entry)) (now (answers .exit)) (r .0) (r .1) ⌝ }
 {
     measure_from(tape, list, &list[0], work);
     answers[0] = list[0].arrival;
@@ -92,9 +90,7 @@ pub fn choose_centres<P, T: Tape<P>>(
     requires room { ⌜ k ≤ length (now answers) ⌝ }
     requires full { ⌜ 1 ≤ length (now list) ⌝ }
     requires long { ⌜ length (now list) ≤ length (now work) ⌝ }
-    ensures count { λ r. ⌜ r .0 ≡ length (farthestFirst (apart (T·Tape .dist (now (tape .entry)))) k (now (list .entry))) ⌝ }
-    ensures spread { λ r. ⌜ r .1 ≡ reach (apart (T·Tape .dist (now (tape .entry)))) (farthestFirst (apart (T·Tape .dist (now (tape .entry)))) k (now (list .entry))) (now (list .entry)) ⌝ }
-    ensures written { λ _. ⌜ now (answers .exit) ≡ map (λ x. x .arrival) (farthestFirst (apart (T·Tape .dist (now (tape .entry)))) k (now (list .entry))) ++ drop (length (farthestFirst (apart (T·Tape .dist (now (tape .entry)))) k (now (list .entry)))) (now (answers .entry)) ⌝ }
+    ensures { λ r. ⌜ Chosen (apart (T·Tape .dist (now (tape .entry)))) (λ x. x .arrival) k (now (list .entry)) (now (answers .entry)) (now (answers .exit)) (r .0) (r .1) ⌝ }
 {
     choose_from(tape, list, k, answers, &mut work[..list.len()])
 }

@@ -6,7 +6,7 @@ use native.Mathlib.Omega.{arith}
 use lib.ListN.{getD, length, length-set, set}
 use Rattle.rules.specs.Picking.{apart}
 use Rattle.rules.specs.declared.place.Place.{Place}
-use Rattle.picking.specs.Lowering.{lowered}
+use Rattle.picking.specs.Centres.{lowered}
 use Rattle.picking.proofs.Spreading.{going-ends, going-more, going-start}
 use Rattle.picking.proofs.centres.choose_from.Needs as need
 
@@ -36,16 +36,12 @@ pub returns-else-far-gt0 : need.returns-else-far-gt0
 returns-else-far-gt0 g c =
     let dist : Place (g .P .Denot) → Place (g .P .Denot) → ℕ = apart (g .T·Tape .dist (c .args .tape .now)) in
     let xs = c .args .list .now in
-    let s =
     going-ends dist (λ x. x .arrival) (c .args .k) xs (c .args .answers .now) (c .loop-count .answers) (c .loop-count .work)
-    (getD xs 0 (c .index-list-0-2 .result) .arrival) (c .loop-count .count) (c .loop-count .far) (c .loop-count .inv) (inr (c .if-far-gt0 .left)) in
-    record { count = s .counted; spread = s .reached; written = s .written }
+    (getD xs 0 (c .index-list-0-2 .result) .arrival) (c .loop-count .count) (c .loop-count .far) (c .loop-count .inv) (inr (c .if-far-gt0 .left))
 
 pub returns-after-loop-count : need.returns-after-loop-count
 returns-after-loop-count g c =
     let dist : Place (g .P .Denot) → Place (g .P .Denot) → ℕ = apart (g .T·Tape .dist (c .args .tape .now)) in
     let xs = c .args .list .now in
-    let s =
     going-ends dist (λ x. x .arrival) (c .args .k) xs (c .args .answers .now) (c .loop-count .answers) (c .loop-count .work)
-    (getD xs 0 (c .index-list-0-2 .result) .arrival) (c .loop-count .count) (c .loop-count .far) (c .loop-count .inv) (inl (c .loop-count-test .left)) in
-    record { count = s .counted; spread = s .reached; written = s .written }
+    (getD xs 0 (c .index-list-0-2 .result) .arrival) (c .loop-count .count) (c .loop-count .far) (c .loop-count .inv) (inl (c .loop-count-test .left))
