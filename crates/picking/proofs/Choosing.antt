@@ -12,7 +12,7 @@ use Rattle.std.proofs.shelf.Lists.{at-drop-all, at-drop-more, drop-more, length
 use Rattle.std.proofs.shelf.Tests.{le-leb, lt-leb}
 use Rattle.packed.specs.Lists.{cut}
 use Rattle.rules.specs.Picking.{anyWithin, choose}
-use Rattle.rules.specs.Steps.{Distance}
+use Rattle.cover.specs.Distances.{Distance}
 use Rattle.rules.specs.declared.place.Place.{Place}
 use Rattle.picking.specs.Trials.{gathered}
 

@@ -18,7 +18,7 @@ use Rattle.row.specs.declared.kept.Row.{Row}
 use Rattle.row.specs.declared.settings.Settings.{Settings}
 use Rattle.rules.specs.Limits.{partSize}
 use Rattle.rules.specs.Picking.{choose, passes, taken, takenAfter}
-use Rattle.rules.specs.Steps.{Distance}
+use Rattle.cover.specs.Distances.{Distance}
 use Rattle.rules.specs.Views as view
 use Rattle.rules.specs.declared.place.Place.{Place}
 use Rattle.picking.specs.Trials.{firstPassing, floorAt, indexFrom, noRow, takenAt}

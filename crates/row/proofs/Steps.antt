@@ -3,7 +3,8 @@ use mathlib.Core.Path.{_≡_, refl}
 use Prim.Native.Nat.{ℕ, _/_}
 use Rattle.std.specs.declared.option.Option.{Option}
 use Rattle.std.specs.declared.option.Option.the-variants.{Some, None}
-use Rattle.rules.specs.Steps.{Distance, refine, refineBy, within}
+use Rattle.cover.specs.Distances.{Distance}
+use Rattle.rules.specs.Steps.{refine, refineBy, within}
 use Rattle.rules.specs.Views.{Entry, Row, Settings}
 use Rattle.rules.specs.Words.{firstOf}
 use Rattle.rules.specs.declared.place.Place.{Place}
