@@ -1,0 +1,14 @@
+//! The book: it follows a stream of pieces of one kind, and forgets those whose term is over.
+//!
+//! Judged settings begin a book that is being set up; radii are entered; opening moves it into an open book, which
+//! takes no more radii. The shelf, on which its pieces lie, is lent to each call, and so are the tape and the term.
+
+pub mod open;
+mod opening;
+pub mod setup;
+pub mod shelf;
+
+pub use open::Book;
+pub use opening::judge;
+pub use setup::Setup;
+pub use shelf::Shelf;
