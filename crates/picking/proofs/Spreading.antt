@@ -42,6 +42,16 @@ module _ {P : Type 0} (dist : P → P → ℕ) where
   onward-done x xs zero cs none = refl
   onward-done x xs (suc n) cs none = rw (eq-eqb (reach dist cs xs) 0 none, onward) refl
 
+  -- no distance is above m: neither is a reach
+  nearest-small : (m : ℕ) → ((x y : P) → dist x y ≤ m) → (cs : List P) (x : P) → nearest dist cs x ≤ m
+  nearest-small m h [] x = omega arith
+  nearest-small m h (c ∷ []) x = h c x
+  nearest-small m h (c ∷ (d ∷ ds)) x = omega (arith, h c x)
+
+  pub reach-small : (m : ℕ) → ((x y : P) → dist x y ≤ m) → (cs xs : List P) → reach dist cs xs ≤ m
+  reach-small m h cs [] = omega arith
+  reach-small m h cs (x ∷ xs) = omega (arith, nearest-small m h cs x, reach-small m h cs xs)
+
   -- the search over the work list is one over the list
   found : (xs cs : List P) (ns : List ℕ) (far : ℕ × ℕ) → 1 ≤ length xs → ns ≡ map (nearest dist cs) xs → Farthest ns far
       → (far .0 < length xs) × (far .0 ≡ greatestAt (nearest dist cs) xs) × (far .1 ≡ reach dist cs xs)

@@ -2,7 +2,7 @@
 use mathlib.Core.Bool.{Bool, true, false, cond}
 use mathlib.Core.List.{List, [], _∷_}
 use mathlib.Core.Path.{_≡_, refl, sym, ap, _∙_}
-use Prim.Native.Nat.{ℕ, suc, _+_, _*_, _<_, _≤_}
+use Prim.Native.Nat.{ℕ, zero, suc, _+_, _-_, _*_, _<_, _≤_}
 use native.Mathlib.Nat.{add-zero, suc-mul, zero-mul}
 use native.Mathlib.Numerals.{add-one}
 use native.Mathlib.Omega.{arith}
@@ -101,11 +101,13 @@ taken-from {P} dist k s all shelf (row ∷ rows) places n e f =
       | false ↦ ap (λ r. takenAfter dist k (Some (r .radius)) (seenRows s rows (drop w places))) here ∙ ih
     ]
 
--- what is taken, by the index of the first radius that passes
-pub taken-at : {P : Type 0} (dist : Distance P) (k : ℕ) (s : Settings) (rows : List Row) (places : List (Place P))
-    → takenAfter dist k None (seenRows s rows places) ≡ takenAt s rows places (firstPassing dist k (seenRows s rows places))
-taken-at dist k s rows places =
-    taken-from dist k s rows places rows places 0 refl (ap (λ m. drop m places) (sym (zero-mul (partSize (judged s)))))
+-- what is taken, by the index r of the first radius that passes
+pub taken-at : {P : Type 0} (dist : Distance P) (s : Settings) (rows : List Row) (places : List (Place P)) (r : Option ℕ)
+    → r ≡ firstPassing dist (s .k) (seenRows s rows places)
+    → takenAfter dist (s .k) None (seenRows s rows places) ≡ takenAt s rows places r
+taken-at dist s rows places r e =
+    taken-from dist (s .k) s rows places rows places 0 refl (ap (λ m. drop m places) (sym (zero-mul (partSize (judged s)))))
+    ∙ ap (takenAt s rows places) (sym e)
 
 -- the same of a view with these settings and rows
 pub taken-seen : {P : Type 0} (dist : Distance P) (b : view.View P) (s : Settings) (rows : List Row) (places : List (Place P)) (r : Option ℕ)
@@ -114,5 +116,12 @@ pub taken-seen : {P : Type 0} (dist : Distance P) (b : view.View P) (s : Setting
 taken-seen dist b s rows places r settled seen e =
     ap (λ t. takenAfter dist (t .k) None (b .rows)) settled
     ∙ ap (takenAfter dist (s .k) None) seen
-    ∙ taken-at dist (s .k) s rows places
-    ∙ ap (takenAt s rows places) (sym e)
+    ∙ taken-at dist s rows places r e
+
+-- the floor, as the code reads it
+pub floor-first : (rows : List Row) (j : ℕ) → j ≡ 0 → floorAt rows j ≡ None
+floor-first rows j e = ap (floorAt rows) e
+
+pub floor-before : (rows : List Row) (j : ℕ) → (j ≡ 0 → ⊥) → floorAt rows j ≡ Some (getD rows (j - 1) noRow .radius)
+floor-before rows zero h = absurd (h refl)
+floor-before rows (suc j) h = let e : j ≡ suc j - 1 = omega arith in ap (λ n. Some (getD rows n noRow .radius)) e

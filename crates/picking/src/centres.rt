@@ -7,6 +7,7 @@ ghost use lib.ListN.{length};
 ghost use Rattle.cover.specs.Choices.{greatest, greatestAt};
 ghost use Rattle.picking.specs.Centres.{Chosen, lowered};
 ghost use Rattle.rules.specs.Picking.{apart};
+ghost use Rattle.tape.specs.Limits.{limit};
 use rules::Place;
 use tape::Tape;
 
@@ -90,7 +91,8 @@ pub fn choose_centres<P, T: Tape<P>>(
     requires room { ⌜ k ≤ length (now answers) ⌝ }
     requires full { ⌜ 1 ≤ length (now list) ⌝ }
     requires long { ⌜ length (now list) ≤ length (now work) ⌝ }
-    ensures { λ r. ⌜ Chosen (apart (T·Tape .dist (now (tape .entry)))) (λ x. x .arrival) k (now (list .entry)) (now (answers .entry)) (now (answers .exit)) (r .0) (r .1) ⌝ }
+    ensures chosen { λ r. ⌜ Chosen (apart (T·Tape .dist (now (tape .entry)))) (λ x. x .arrival) k (now (list .entry)) (now (answers .entry)) (now (answers .exit)) (r .0) (r .1) ⌝ }
+    ensures small { λ r. ⌜ r .1 ≤ limit ⌝ }
 {
     choose_from(tape, list, k, answers, &mut work[..list.len()])
 }

@@ -7,6 +7,7 @@ ghost use Rattle.picking.specs.Trials.{firstPassing, gathered, noRow};
 ghost use Rattle.row.specs.Seen.{Within, judged, seenRows};
 ghost use Rattle.rules.specs.Limits.{greatestRadius, partSize};
 ghost use Rattle.rules.specs.Picking.{anyWithin};
+ghost use Rattle.std.specs.Options.{Cases};
 ghost use Rattle.std.specs.shelf.Lists.{All};
 use row::Row;
 use row::Settings;
@@ -43,7 +44,8 @@ pub fn first_passing<P, T: Tape<P>>(
     requires within { ⌜ ((j : ℕ) → j < length (now rows) → Within settings (getD (now rows) j noRow)) ⌝ }
     requires radii { ⌜ ((j : ℕ) → j < length (now rows) → getD (now rows) j noRow .radius ≤ greatestRadius) ⌝ }
     requires long { ⌜ length (now rows) * partSize (judged settings) ≤ length (now places) ⌝ }
-    ensures { λ r. ⌜ r ≡ firstPassing (T·Tape .dist (now (tape .entry))) (settings .k) (seenRows settings (now (rows .entry)) (now (places .entry))) ⌝ }
+    ensures first { λ r. ⌜ r ≡ firstPassing (T·Tape .dist (now (tape .entry))) (settings .k) (seenRows settings (now (rows .entry)) (now (places .entry))) ⌝ }
+    ensures inside { λ r. ⌜ Cases r (Unit {0}) (λ j. j < length (now (rows .entry))) ⌝ }
 {
     let size = 3 * settings.k + 3 + 2 * settings.limit;
     'radii: for j in 0..rows.len() {

@@ -78,14 +78,21 @@ loop-i-again g c =
 pub returns-in-radii : need.returns-in-radii
 returns-in-radii g c =
     let j = c .radii .j in
-    passing-here (g .T·Tape .dist (c .args .tape .now)) (c .args .settings) (c .args .rows .now) (c .args .places .now) (c .pre .long) j
-    (c .radii-test .taken) (c .pre .within j (c .radii-test .taken)) (c .if-row-settings .left)
-    (trying-ends (g .T·Tape .dist (c .args .tape .now)) (2 * getD (c .args .rows .now) j noRow .radius) (c .args .settings .k)
-    (kept (c .args .settings) (c .args .rows .now) (c .args .places .now) j) (c .loop-i .chosen) (c .loop-i .count) (c .loop-i .i)
-    (c .loop-i .inv) (c .loop-i-test .left) (c .args .settings .few))
-    (c .radii .inv)
+    record {
+      first =
+          passing-here (g .T·Tape .dist (c .args .tape .now)) (c .args .settings) (c .args .rows .now) (c .args .places .now) (c .pre .long) j
+          (c .radii-test .taken) (c .pre .within j (c .radii-test .taken)) (c .if-row-settings .left)
+          (trying-ends (g .T·Tape .dist (c .args .tape .now)) (2 * getD (c .args .rows .now) j noRow .radius) (c .args .settings .k)
+          (kept (c .args .settings) (c .args .rows .now) (c .args .places .now) j) (c .loop-i .chosen) (c .loop-i .count) (c .loop-i .i)
+          (c .loop-i .inv) (c .loop-i-test .left) (c .args .settings .few))
+          (c .radii .inv);
+      inside = c .radii-test .taken;
+    }
 
 pub returns : need.returns
-returns g c =
-    passing-none (g .T·Tape .dist (c .args .tape .now)) (c .args .settings) (c .args .rows .now) (c .args .places .now) (c .pre .long) (c .radii .j)
-    (c .radii-test .left) (c .radii .inv)
+returns g c = record {
+  first =
+      passing-none (g .T·Tape .dist (c .args .tape .now)) (c .args .settings) (c .args .rows .now) (c .args .places .now) (c .pre .long) (c .radii .j)
+      (c .radii-test .left) (c .radii .inv);
+  inside = tt;
+}
