@@ -1,1 +1,4 @@
 pub mod Settling
+pub mod Parts
+pub mod Steps
+pub mod Turns

@@ -7,6 +7,7 @@ pub mod open;
 mod opening;
 pub mod setup;
 pub mod shelf;
+mod stepping;
 
 pub use open::Book;
 pub use opening::judge;
