@@ -1,0 +1,5 @@
+//! How a find and a hand out read the shelf.
+
+pub mod seek;
+
+pub use seek::find_place;
