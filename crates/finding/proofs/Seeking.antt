@@ -3,11 +3,11 @@ use mathlib.Core.Bool.{Bool, true, false, cond}
 use mathlib.Core.List.{List, [], _∷_, _++_, map}
 use mathlib.Core.Path.{_≡_, refl, sym, ap, _∙_}
 use Prim.Native.Nat.{ℕ, suc, _+_, _*_, _<_, _≤_}
-use native.Mathlib.Nat.{add-zero, suc-mul, zero-mul}
+use native.Mathlib.Nat.{add-zero, suc-mul}
 use native.Mathlib.Numerals.{add-one}
 use native.Mathlib.Omega.{arith}
 use lib.Dec.{eqb}
-use lib.ListN.{length, getD, take, drop}
+use lib.ListN.{length, getD, drop}
 use Rattle.std.specs.declared.option.Option.{Option}
 use Rattle.std.specs.declared.option.Option.the-variants.{Some, None}
 use Rattle.std.proofs.shelf.Lists.{at-drop-all, at-drop-more, getD-drop, getD-take}
@@ -15,12 +15,12 @@ use Rattle.std.proofs.shelf.Tests.{eq-eqb, ne-eqb}
 use Rattle.packed.specs.Lists.{cut}
 use Rattle.packed.proofs.Packing.{length-cut}
 use Rattle.picking.specs.Trials.{noRow}
-use Rattle.picking.proofs.Shelves.{cut-cut, length-seen, part-room, seen-at}
+use Rattle.picking.proofs.Shelves.{cut-cut, length-seen, seen-at}
 use Rattle.row.specs.Seen.{Within, entries, firstsAt, judged, latestsAt, seenRow, seenRows}
 use Rattle.row.specs.declared.kept.Row.{Row}
 use Rattle.row.specs.declared.settings.Settings.{Settings}
-use Rattle.rules.specs.Calls.{lying, lyingFrom, lyingIn, placeOf, pieceOf}
-use Rattle.rules.specs.Limits.{attractorRoom, partSize, representativesAt}
+use Rattle.rules.specs.Calls.{lying, lyingFrom, lyingIn, placeOf}
+use Rattle.rules.specs.Limits.{attractorRoom, partSize}
 use Rattle.rules.specs.Views as view
 use Rattle.rules.specs.Words.{firstOf}
 use Rattle.rules.specs.declared.place.Place.{Place}
