@@ -1,6 +1,9 @@
 -- A book as the rules see it.
 use mathlib.Core.List.{List}
-use lib.ListN.{length, take}
+use mathlib.Core.Path.{_≡_}
+use Prim.Native.Nat.{_*_}
+use lib.ListN.{drop, length, take}
+use Rattle.rules.specs.Limits.{partSize}
 use Rattle.row.specs.Seen.{judged, seenRows}
 use Rattle.rules.specs.Views as view
 use Rattle.rules.specs.declared.place.Place.{Place}
@@ -19,3 +22,8 @@ seen b places = record {
   day = b .day;
   places = length places;
 }
+
+-- the places that the book does not use are as they were
+abbrev pub Surplus : {P : Type 0} → Book P → List (Place P) → List (Place P) → Type 0
+Surplus b places places2 =
+    drop (b .count * partSize (judged (b .settings))) places2 ≡ drop (b .count * partSize (judged (b .settings))) places

@@ -5,6 +5,7 @@
 
 pub mod open;
 mod opening;
+mod passing;
 pub mod setup;
 pub mod shelf;
 mod stepping;

@@ -34,13 +34,13 @@ pub trait Change<P> {
 
 /// A post.
 #[derive(Drop)]
-pub struct Posting<'a, P, T, W> {
+pub struct Posting<'a, 'b, P, T, W> {
     pub tape: &'a T,
-    pub term: &'a W,
+    pub term: &'b W,
     pub place: Place<P>,
 }
 
-pub impl<'a, P: Copy, T: Tape<P>, W: Term> Change<P> for Posting<'a, P, T, W> as ChangeByPosting {
+pub impl<'a, 'b, P: Copy, T: Tape<P>, W: Term> Change<P> for Posting<'a, 'b, P, T, W> as ChangeByPosting {
     ghost does = { λ t s row. rule.postRow (T·Tape .dist (now (t .tape))) (W·Term .counts (now (t .term))) (judged s) (t .place) row };
 
     fn change(&self, row: &mut Row, part: &mut [Place<P>], settings: Settings) {
