@@ -2,3 +2,5 @@ pub mod Settling
 pub mod Parts
 pub mod Steps
 pub mod Turns
+pub mod Performed
+pub mod Expired
