@@ -52,7 +52,7 @@ pub expired-fits : {P : Type 0} (counts : Rule) (m d : ℕ) (s : Settings) (n : 
     → All (RowFits (judged s)) (map (expire counts m d) (seenRows s (take n rows) xs))
 expired-fits counts m d s zero rows xs w = tt
 expired-fits counts m d s (suc n) [] xs w = tt
-expired-fits counts m d s (suc n) (r ∷ rows) xs w =
-    ( row-fits counts m d s r (take (partSize (judged s)) xs) (w 0 (omega arith))
-    , expired-fits counts m d s n rows (drop (partSize (judged s)) xs) (λ j h. w (suc j) (omega arith))
-    )
+expired-fits counts m d s (suc n) (r ∷ rows) xs w = (
+  row-fits counts m d s r (take (partSize (judged s)) xs) (w 0 (omega arith)),
+  expired-fits counts m d s n rows (drop (partSize (judged s)) xs) (λ j h. w (suc j) (omega arith)),
+)

@@ -4,3 +4,4 @@ pub mod Steps
 pub mod Turns
 pub mod Performed
 pub mod Expired
+pub mod Sought

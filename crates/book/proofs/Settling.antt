@@ -58,8 +58,9 @@ pub bounded-set : (xs : List ℕ) (n g : ℕ) → n < length xs → g ≤ 100000
     → (j : ℕ) → j < 24 → getD (set xs n g) j 0 ≤ 1000000
 bounded-set xs n g h k f j l =
     elim (cases-eq j n) [
-        inl e ↦ let here : getD (set xs n g) j 0 ≡ g = ap (λ i. getD (set xs n g) i 0) e ∙ getD-set-same xs n g 0 h in omega arith
-      | inr ne ↦ let there : getD (set xs n g) j 0 ≡ getD xs j 0 = getD-set-other xs n j g 0 ne in let low = f j l in omega arith ]
+      | inl e ↦ let here : getD (set xs n g) j 0 ≡ g = ap (λ i. getD (set xs n g) i 0) e ∙ getD-set-same xs n g 0 h in omega arith
+      | inr ne ↦ let there : getD (set xs n g) j 0 ≡ getD xs j 0 = getD-set-other xs n j g 0 ne in let low = f j l in omega arith
+    ]
 
 -- a book with no piece is as the rules open it
 pub opened : {P : Type 0} (s : Settings) (radii : List ℕ) (places : List (Place P)) → seenRows s (map emptyRow radii) places ≡ map bare radii
@@ -111,7 +112,7 @@ radius-entered s xs n g h q =
 
 pub book-opened : {P : Type 0} (s : Settings) (n : ℕ) (gs : List ℕ) (rows : List Row) (places : List (Place P)) → rows ≡ map emptyRow gs
     → OpenRule (record { settings = judged s; radii = take n gs }) (length places)
-      (record { settings = judged s; rows = seenRows s (take n rows) places; posts = 0; day = 0; places = length places })
+    (record { settings = judged s; rows = seenRows s (take n rows) places; posts = 0; day = 0; places = length places })
 book-opened s n gs rows places e =
     ap (λ rs. record { settings = judged s; rows = rs; posts = 0; day = 0; places = length places }) (rows-opened s n gs rows places e)
 

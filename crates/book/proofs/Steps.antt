@@ -22,18 +22,20 @@ take-row (suc n) (suc j) (y ∷ xs) x = ap (λ ys. y ∷ ys) (take-row n j xs x)
 pub within-row : (s : Settings) (rows : List Row) (j : ℕ) (row : Row) → j < length rows → Within s row → RowsWithin s rows → RowsWithin s (set rows j row)
 within-row s rows j row h w f i l =
     elim (cases-eq i j) [
-        inl e ↦ subst (λ n. Within s (getD (set rows j row) n noRow)) (sym e) (subst (Within s) (sym (getD-set-same rows j row noRow h)) w)
-      | inr ne ↦ subst (Within s) (sym (getD-set-other rows j i row noRow ne)) (f i l) ]
+      | inl e ↦ subst (λ n. Within s (getD (set rows j row) n noRow)) (sym e) (subst (Within s) (sym (getD-set-same rows j row noRow h)) w)
+      | inr ne ↦ subst (Within s) (sym (getD-set-other rows j i row noRow ne)) (f i l)
+    ]
 
 pub bounded-row : (rows : List Row) (j : ℕ) (row : Row) → j < length rows → row .radius ≡ getD rows j noRow .radius → RadiiBounded rows → RadiiBounded (set rows j row)
 bounded-row rows j row h e f i l =
     elim (cases-eq i j) [
-        inl q ↦
+      | inl q ↦
           let here : getD (set rows j row) i noRow ≡ row = ap (λ n. getD (set rows j row) n noRow) q ∙ getD-set-same rows j row noRow h in
           let same = ap (λ r. r .radius) here in
           let low = f j (omega arith) in
           omega arith
-      | inr ne ↦ let same = ap (λ r. r .radius) (getD-set-other rows j i row noRow ne) in let low = f i l in omega arith ]
+      | inr ne ↦ let same = ap (λ r. r .radius) (getD-set-other rows j i row noRow ne) in let low = f i l in omega arith
+    ]
 
 -- the first j of a list changed, and the rest as they were
 abbrev pub partway : {X : Type 0} → (X → X) → ℕ → List X → List X

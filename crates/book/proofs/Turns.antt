@@ -25,7 +25,7 @@ abbrev pub Changed : {P : Type 0} → (Settings → view.Row P → view.Row P) �
 Changed f s n rows xs rows2 ys j =
     RowFits (judged s) (f s (seenRow s (getD rows j noRow) (cut (j * partSize (judged s)) (partSize (judged s)) xs)))
     → seenRows s (take n rows2) ys
-      ≡ set (seenRows s (take n rows) xs) j (f s (seenRow s (getD rows j noRow) (cut (j * partSize (judged s)) (partSize (judged s)) xs)))
+    ≡ set (seenRows s (take n rows) xs) j (f s (seenRow s (getD rows j noRow) (cut (j * partSize (judged s)) (partSize (judged s)) xs)))
 
 pub turn-more : {P : Type 0} (f : Settings → view.Row P → view.Row P) (s : Settings) (n j : ℕ) (v : List (view.Row P)) (rows rows2 : List Row) (xs ys : List (Place P))
     → j < n → n ≤ length rows → length v ≡ n
@@ -38,8 +38,8 @@ turn-more {P} f s n j v rows rows2 xs ys h l lv fits so-far changed =
     let here : view.Row P = seenRow s (getD rows j noRow) (cut (j * w) w xs) in
     let size : length (take n rows) ≡ n = length-take-le n rows l in
     let seen : getD (seenRows s (take n rows) xs) j here ≡ here =
-        seen-at s (take n rows) xs j here (omega arith)
-        ∙ ap (λ r. seenRow s r (cut (j * w) w xs)) (getD-take n rows j noRow h) in
+    seen-at s (take n rows) xs j here (omega arith)
+    ∙ ap (λ r. seenRow s r (cut (j * w) w xs)) (getD-take n rows j noRow h) in
     let old : getD (partway (f s) j v) j here ≡ here = ap (λ rs. getD rs j here) (sym so-far) ∙ seen in
     let was : getD v j here ≡ here = sym (partway-at (f s) j v here (omega arith)) ∙ old in
     let lm : length (map (f s) v) ≡ length v = length-map v (f s) in

@@ -6,6 +6,7 @@
 pub mod open;
 mod opening;
 mod passing;
+mod seeking;
 pub mod setup;
 pub mod shelf;
 mod stepping;

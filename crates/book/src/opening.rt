@@ -32,7 +32,11 @@ pub fn judge(k: u32, fineness: u32, limit: u32) -> Result<Settings, Refusal>
     if k < 1 || k > 12 || fineness < 2 || fineness > 64 || limit < 1 || limit > 64 {
         return Err(Refusal::SettingOutOfRange);
     }
-    Ok(Settings { k: k as usize, fineness, limit: limit as usize })
+    Ok(Settings {
+        k: k as usize,
+        fineness,
+        limit: limit as usize,
+    })
 }
 
 impl<P> Setup<P> {
@@ -41,7 +45,12 @@ impl<P> Setup<P> {
         ensures rule { λ r. ⌜ BeginRule (judged settings) (settingUp r) ⌝ }
         ensures run { λ r. ⌜ ((dist : Distance P) (counts : Rule) → Reached dist counts (Begin (judged settings) ∷ []) (SettingUp (settingUp r))) ⌝ }
     {
-        Setup { settings, radii: [0; 24], count: 1, kind: PhantomData }
+        Setup {
+            settings,
+            radii: [0; 24],
+            count: 1,
+            kind: PhantomData,
+        }
     }
 
     /// Enters a further radius: it must exceed the last, and be at most the larger of the last plus 1 and twice the
@@ -77,9 +86,21 @@ impl<P> Setup<P> {
         ensures rule { λ r. ⌜ ((places : List (Place P)) → OpenRule (settingUp self) (length places) (seen r places)) ⌝ }
         ensures run { λ r. ⌜ ((dist : Distance P) (counts : Rule) (es : List (Event P)) (places : List (Place P)) → Reached dist counts es (SettingUp (settingUp self)) → Reached dist counts (Open (length places) ∷ es) (Opened (seen r places))) ⌝ }
     {
-        let Setup { settings, radii, count, kind } = self;
+        let Setup {
+            settings,
+            radii,
+            count,
+            kind,
+        } = self;
         let rows = rows_of(&radii);
-        Book { settings, rows, count, posts: 0, day: 0, kind }
+        Book {
+            settings,
+            rows,
+            count,
+            posts: 0,
+            day: 0,
+            kind,
+        }
     }
 }
 
@@ -95,9 +116,21 @@ fn may_follow(last: u32, radius: u32) -> bool
 fn rows_of(radii: &[u32; 24]) -> [Row; 24]
     ensures { λ r. ⌜ r ≡ map emptyRow (now (radii .entry)) ⌝ }
 {
-    let mut rows = [Row { radius: 0, attractors: 0, representatives: 0, entries: 0, lost: None }; 24];
+    let mut rows = [Row {
+        radius: 0,
+        attractors: 0,
+        representatives: 0,
+        entries: 0,
+        lost: None,
+    }; 24];
     for j in 0..24 {
-        rows[j] = Row { radius: radii[j], attractors: 0, representatives: 0, entries: 0, lost: None };
+        rows[j] = Row {
+            radius: radii[j],
+            attractors: 0,
+            representatives: 0,
+            entries: 0,
+            lost: None,
+        };
     }
     rows
 }

@@ -5,7 +5,7 @@ ghost use mathlib.Core.List.{List, _∷_};
 ghost use mathlib.Core.Path.{_≡_};
 ghost use Prim.Native.Nat.{ℕ, _+_, _*_, _≤_};
 ghost use denote.Ref.{name};
-ghost use lib.ListN.{drop, length};
+ghost use lib.ListN.{drop, length, take};
 ghost use Rattle.cover.specs.Distances.{Distance, Metric};
 ghost use Rattle.row.specs.Seen.{judged};
 ghost use Rattle.rules.specs.Calls.{PostRule, TurnRule, posted, short, whyNotPost, whyNotTurn};
@@ -25,12 +25,20 @@ use row::ChangeByExpiring;
 use row::ChangeByPosting;
 use row::Expiring;
 use row::Posting;
+use row::Row;
 use rules::Place;
 use tape::Tape;
 use term::Clock;
 use term::Term;
 
 impl<P> Book<P> {
+    /// The rows of its radii.
+    pub(crate) fn live_rows(&self) -> &[Row]
+        ensures { λ r. ⌜ now r ≡ take (now (self .entry) .count) (now (self .entry) .rows) ⌝ }
+    {
+        &self.rows[0..self.count]
+    }
+
     /// Whether a shelf of so many places is too short.
     pub(crate) fn is_short(&self, places: usize) -> bool
         ensures { λ r. ⌜ ((xs : List (Place P)) → length xs ≡ places → r ≡ short (seen (now (self .entry)) xs)) ⌝ }
@@ -75,7 +83,14 @@ impl<P> Book<P> {
 
 impl<P: Copy> Book<P> {
     /// Posts a piece on a day. Where what follows fits the shelf, as it does in every run, it is what the rules say.
-    pub fn post<T: Tape<P>, W: Term>(&mut self, shelf: &mut Shelf<'_, P>, tape: &T, term: &W, piece: P, day: u32) -> Result<(), Refusal>
+    pub fn post<T: Tape<P>, W: Term>(
+        &mut self,
+        shelf: &mut Shelf<'_, P>,
+        tape: &T,
+        term: &W,
+        piece: P,
+        day: u32,
+    ) -> Result<(), Refusal>
         ensures answer { λ r. ⌜ r ≡ after (whyNotPost (seen (now (self .entry)) (now (now (shelf .entry) .places))) day) (Ok tt) ⌝ }
         ensures rule { λ r. ⌜ (Fits (Opened (posted (T·Tape .dist (now (tape .entry))) (W·Term .counts (now (term .entry))) piece day (seen (now (self .entry)) (now (now (shelf .entry) .places))))) → PostRule (T·Tape .dist (now (tape .entry))) (W·Term .counts (now (term .entry))) (seen (now (self .entry)) (now (now (shelf .entry) .places))) piece day r (seen (now (self .exit)) (now (now (shelf .exit) .places)))) ⌝ }
         ensures refused { λ r. ⌜ (isOk r ≡ false → (now (self .exit) ≡ now (self .entry)) × (now (now (shelf .exit) .places) ≡ now (now (shelf .entry) .places))) ⌝ }
@@ -89,13 +104,23 @@ impl<P: Copy> Book<P> {
         }
         self.posts += 1;
         self.day = day;
-        let place = Place { piece, arrival: self.posts, day, attractor: 0 };
+        let place = Place {
+            piece,
+            arrival: self.posts,
+            day,
+            attractor: 0,
+        };
         self.change_rows(shelf.places, &Posting { tape, term, place });
         Ok(())
     }
 
     /// Turns the day.
-    pub fn turn<W: Term>(&mut self, shelf: &mut Shelf<'_, P>, term: &W, day: u32) -> Result<(), Refusal>
+    pub fn turn<W: Term>(
+        &mut self,
+        shelf: &mut Shelf<'_, P>,
+        term: &W,
+        day: u32,
+    ) -> Result<(), Refusal>
         ensures rule { λ r. ⌜ TurnRule (W·Term .counts (now (term .entry))) (seen (now (self .entry)) (now (now (shelf .entry) .places))) day r (seen (now (self .exit)) (now (now (shelf .exit) .places))) ⌝ }
         ensures refused { λ r. ⌜ (isOk r ≡ false → (now (self .exit) ≡ now (self .entry)) × (now (now (shelf .exit) .places) ≡ now (now (shelf .entry) .places))) ⌝ }
         ensures surplus { λ _. ⌜ Surplus (now (self .entry)) (now (now (shelf .entry) .places)) (now (now (shelf .exit) .places)) ⌝ }
@@ -107,7 +132,16 @@ impl<P: Copy> Book<P> {
             return Err(why);
         }
         self.day = day;
-        self.change_rows(shelf.places, &Expiring { term, clock: Clock { posts: self.posts, day } });
+        self.change_rows(
+            shelf.places,
+            &Expiring {
+                term,
+                clock: Clock {
+                    posts: self.posts,
+                    day,
+                },
+            },
+        );
         Ok(())
     }
 }

@@ -17,7 +17,13 @@ use row::Settings;
 use rules::Place;
 
 /// Changes the radius whose part of the shelf begins at `at`.
-fn change_at<P: Copy, C: Change<P>>(row: &mut Row, places: &mut [Place<P>], at: usize, settings: Settings, change: &C)
+fn change_at<P: Copy, C: Change<P>>(
+    row: &mut Row,
+    places: &mut [Place<P>],
+    at: usize,
+    settings: Settings,
+    change: &C,
+)
     requires room { ⌜ at + partSize (judged settings) ≤ length (now places) ⌝ }
     requires within { ⌜ Within settings (now row) ⌝ }
     requires bounded { ⌜ now row .radius ≤ 1000000 ⌝ }

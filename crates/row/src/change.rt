@@ -40,7 +40,13 @@ pub struct Posting<'a, 'b, P, T, W> {
     pub place: Place<P>,
 }
 
-pub impl<'a, 'b, P: Copy, T: Tape<P>, W: Term> Change<P> for Posting<'a, 'b, P, T, W> as ChangeByPosting {
+pub impl<'a, 'b, P: Copy, T: Tape<P>, W: Term> Change<P> for Posting<
+    'a,
+    'b,
+    P,
+    T,
+    W,
+> as ChangeByPosting {
     ghost does = { λ t s row. rule.postRow (T·Tape .dist (now (t .tape))) (W·Term .counts (now (t .term))) (judged s) (t .place) row };
 
     fn change(&self, row: &mut Row, part: &mut [Place<P>], settings: Settings) {

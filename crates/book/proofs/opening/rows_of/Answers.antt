@@ -12,11 +12,11 @@ loop-j-again c =
     let gs = c .args .radii .now in
     let inside = c .loop-j-test .taken in
     let told = c .told-radii in
-    let long = c .loop-j .inv .1 in
-    ( take-more-set (c .loop-j .rows) j (emptyRow (getD gs j 0)) (omega arith)
-      ∙ ap (λ rs. rs ++ (emptyRow (getD gs j 0) ∷ [])) (c .loop-j .inv .0)
-      ∙ sym (map-more emptyRow gs j 0 (omega arith))
-    , length-set (c .loop-j .rows) j (emptyRow (getD gs j 0)) ∙ long
+    let long = c .loop-j .inv .1 in (
+      take-more-set (c .loop-j .rows) j (emptyRow (getD gs j 0)) (omega arith)
+          ∙ ap (λ rs. rs ++ (emptyRow (getD gs j 0) ∷ [])) (c .loop-j .inv .0)
+          ∙ sym (map-more emptyRow gs j 0 (omega arith)),
+      length-set (c .loop-j .rows) j (emptyRow (getD gs j 0)) ∙ long,
     )
 
 pub returns : need.returns

@@ -30,15 +30,18 @@ ghost-self g c =
     let few = b .few in
     let long = b .long in
     let j = c .args .j in
-    let row = c .change-at .last .row in
-    ( b .few
-    , ( length-set (b .rows) j row ∙ long
-      , ( within-row (b .settings) (b .rows) j row (omega arith) (c .change-at .ensures .kept) (b .within)
-        , ( bounded-row (b .rows) j row (omega arith) (c .change-at .ensures .radius) (b .bounded)
-          , (b .posted, tt)
-          )
-        )
-      )
+    let row = c .change-at .last .row in (
+      b .few,
+      (
+        length-set (b .rows) j row ∙ long,
+        (
+          within-row (b .settings) (b .rows) j row (omega arith) (c .change-at .ensures .kept) (b .within),
+          (
+            bounded-row (b .rows) j row (omega arith) (c .change-at .ensures .radius) (b .bounded),
+            (b .posted, tt),
+          ),
+        ),
+      ),
     )
 
 pub returns : need.returns

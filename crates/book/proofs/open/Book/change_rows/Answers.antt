@@ -30,19 +30,19 @@ loop-j-again g c =
     let size : length (take n (b .rows)) ≡ n = length-take-le n (b .rows) (omega arith) in
     let lv = length-seen s (take n (b .rows)) (c .args .places .now) in
     let step1 : Changed f s (b1 .count) (b1 .rows) xs1 (b2 .rows) xs2 j =
-        subst (λ (t : Settings). Changed f t (b1 .count) (b1 .rows) xs1 (b2 .rows) xs2 j) (inv .1) (c .change-row .ensures .seen) in
+    subst (λ (t : Settings). Changed f t (b1 .count) (b1 .rows) xs1 (b2 .rows) xs2 j) (inv .1) (c .change-row .ensures .seen) in
     let step2 : Changed f s n (b1 .rows) xs1 (b2 .rows) xs2 j =
-        subst (λ (m : ℕ). Changed f s m (b1 .rows) xs1 (b2 .rows) xs2 j) (inv .2) step1 in
+    subst (λ (m : ℕ). Changed f s m (b1 .rows) xs1 (b2 .rows) xs2 j) (inv .2) step1 in
     let rest = subst (λ (m : ℕ). drop m (b2 .rows) ≡ drop m (b1 .rows)) (inv .2) (c .change-row .ensures .rest) in
     let past1 = subst (λ (t : Settings). drop (b1 .count * partSize (judged t)) xs2 ≡ drop (b1 .count * partSize (judged t)) xs1) (inv .1) (c .change-row .ensures .surplus) in
-    let past2 = subst (λ (m : ℕ). drop (m * partSize (judged s)) xs2 ≡ drop (m * partSize (judged s)) xs1) (inv .2) past1 in
-    ( λ fits. turn-more f s n j (seenRows s (take n (b .rows)) (c .args .places .now)) (b1 .rows) (b2 .rows) xs1 xs2 there (omega arith) (omega arith) fits (inv .0 fits) step2
-    , c .change-row .ensures .settings ∙ inv .1
-    , c .change-row .ensures .count ∙ inv .2
-    , c .change-row .ensures .posts ∙ inv .3
-    , c .change-row .ensures .day ∙ inv .4
-    , rest ∙ inv .5
-    , past2 ∙ inv .6
+    let past2 = subst (λ (m : ℕ). drop (m * partSize (judged s)) xs2 ≡ drop (m * partSize (judged s)) xs1) (inv .2) past1 in (
+      λ fits. turn-more f s n j (seenRows s (take n (b .rows)) (c .args .places .now)) (b1 .rows) (b2 .rows) xs1 xs2 there (omega arith) (omega arith) fits (inv .0 fits) step2,
+      c .change-row .ensures .settings ∙ inv .1,
+      c .change-row .ensures .count ∙ inv .2,
+      c .change-row .ensures .posts ∙ inv .3,
+      c .change-row .ensures .day ∙ inv .4,
+      rest ∙ inv .5,
+      past2 ∙ inv .6,
     )
 
 pub returns : need.returns

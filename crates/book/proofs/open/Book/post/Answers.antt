@@ -79,14 +79,14 @@ returns g c =
     let counts = g .W·Term .counts (c .args .term .now) in
     let e : whyNotPost b d ≡ None = sym (c .why-not-post .ensures xs refl) ∙ c .in-rest .is in
     let after : ℕ → List (view.Row (g .P .Denot)) = λ n.
-        map (postRow dist counts (judged (b0 .settings)) (record { piece = p; arrival = n; day = d; attractor = 0 })) (seenRows (b0 .settings) (take (b0 .count) (b0 .rows)) xs) in
+    map (postRow dist counts (judged (b0 .settings)) (record { piece = p; arrival = n; day = d; attractor = 0 })) (seenRows (b0 .settings) (take (b0 .count) (b0 .rows)) xs) in
     let is : Fits (Opened (posted dist counts p d b)) → seen b1 ys ≡ posted dist counts p d b = λ fits.
-        seen-after (b0 .settings) (b1 .settings) (b0 .count) (b1 .count) (suc (b0 .posts)) (b1 .posts) d (b1 .day) (length xs) (b1 .rows) ys (posted dist counts p d b)
-        (c .change-rows .ensures .settings) (c .change-rows .ensures .count) (c .change-rows .ensures .posts ∙ add-one (b0 .posts)) (c .change-rows .ensures .day)
-        (c .change-rows .kept .places)
-        (ap (λ rs. record { settings = judged (b0 .settings); rows = rs; posts = suc (b0 .posts); day = d; places = length xs })
-         (c .change-rows .ensures .seen (subst (λ (n : ℕ). All (RowFits (judged (b0 .settings))) (after n)) (sym (add-one (b0 .posts))) fits)
-          ∙ ap after (add-one (b0 .posts)))) in
+    seen-after (b0 .settings) (b1 .settings) (b0 .count) (b1 .count) (suc (b0 .posts)) (b1 .posts) d (b1 .day) (length xs) (b1 .rows) ys (posted dist counts p d b)
+    (c .change-rows .ensures .settings) (c .change-rows .ensures .count) (c .change-rows .ensures .posts ∙ add-one (b0 .posts)) (c .change-rows .ensures .day)
+    (c .change-rows .kept .places)
+    (ap (λ rs. record { settings = judged (b0 .settings); rows = rs; posts = suc (b0 .posts); day = d; places = length xs })
+    (c .change-rows .ensures .seen (subst (λ (n : ℕ). All (RowFits (judged (b0 .settings))) (after n)) (sym (add-one (b0 .posts))) fits)
+    ∙ ap after (add-one (b0 .posts)))) in
     let rule : Fits (Opened (posted dist counts p d b)) → PostRule dist counts b p d (Ok tt) (seen b1 ys) = λ fits. post-performed dist counts b (seen b1 ys) p d e (is fits) in
     let metric : Metric dist = record {
       range = g .T·Tape·met .range (c .args .tape .now);

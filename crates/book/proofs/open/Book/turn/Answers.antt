@@ -60,10 +60,10 @@ returns g c =
     let e : whyNotTurn b d ≡ None = sym (c .why-not-turn .ensures xs refl) ∙ c .in-rest .is in
     let fits = expired-fits counts (b0 .posts) d (b0 .settings) (b0 .count) (b0 .rows) xs (λ j h. b0 .within j (omega arith)) in
     let is : seen b1 ys ≡ turned counts d b =
-        seen-after (b0 .settings) (b1 .settings) (b0 .count) (b1 .count) (b0 .posts) (b1 .posts) d (b1 .day) (length xs) (b1 .rows) ys (turned counts d b)
-        (c .change-rows .ensures .settings) (c .change-rows .ensures .count) (c .change-rows .ensures .posts) (c .change-rows .ensures .day)
-        (c .change-rows .kept .places)
-        (ap (λ rs. record { settings = judged (b0 .settings); rows = rs; posts = b0 .posts; day = d; places = length xs }) (c .change-rows .ensures .seen fits)) in
+    seen-after (b0 .settings) (b1 .settings) (b0 .count) (b1 .count) (b0 .posts) (b1 .posts) d (b1 .day) (length xs) (b1 .rows) ys (turned counts d b)
+    (c .change-rows .ensures .settings) (c .change-rows .ensures .count) (c .change-rows .ensures .posts) (c .change-rows .ensures .day)
+    (c .change-rows .kept .places)
+    (ap (λ rs. record { settings = judged (b0 .settings); rows = rs; posts = b0 .posts; day = d; places = length xs }) (c .change-rows .ensures .seen fits)) in
     let rule = turn-performed counts b (seen b1 ys) d e is in
     let law : Lawful counts = record {
       newest = g .W·Term·met .newest (c .args .term .now);

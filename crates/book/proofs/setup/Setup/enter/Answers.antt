@@ -29,13 +29,15 @@ ghost-self g c =
     let room = none-room (judged (b .settings)) (take (b .count) (b .radii)) (c .args .radius) e in
     let size = length-take-le (b .count) (b .radii) (omega arith) in
     let left = room .0 in
-    let inside : b .count < length (b .radii) = omega arith in
-    ( omega arith
-    , ( omega arith
-      , ( length-set (b .radii) (b .count) (c .args .radius) ∙ long
-        , (bounded-set (b .radii) (b .count) (c .args .radius) inside (room .1) (b .bounded), tt)
-        )
-      )
+    let inside : b .count < length (b .radii) = omega arith in (
+      omega arith,
+      (
+        omega arith,
+        (
+          length-set (b .radii) (b .count) (c .args .radius) ∙ long,
+          (bounded-set (b .radii) (b .count) (c .args .radius) inside (room .1) (b .bounded), tt),
+        ),
+      ),
     )
 
 pub returns : need.returns

@@ -11,13 +11,15 @@ use Rattle.book.proofs.setup.Setup.open.Needs as need
 pub ghost-result : need.ghost-result
 ghost-result g c =
     let u = c .args .self in
-    let e = c .rows-of-rows .ensures in
-    ( u .few
-    , ( ap length e ∙ length-map (u .radii) emptyRow ∙ u .long
-      , ( rows-within (u .settings) (u .radii) (c .rows-of-rows .result) e
-        , (rows-bounded (u .radii) (c .rows-of-rows .result) e (u .bounded), (omega arith, tt))
-        )
-      )
+    let e = c .rows-of-rows .ensures in (
+      u .few,
+      (
+        ap length e ∙ length-map (u .radii) emptyRow ∙ u .long,
+        (
+          rows-within (u .settings) (u .radii) (c .rows-of-rows .result) e,
+          (rows-bounded (u .radii) (c .rows-of-rows .result) e (u .bounded), (omega arith, tt)),
+        ),
+      ),
     )
 
 pub returns : need.returns
