@@ -5,3 +5,5 @@ pub mod Turns
 pub mod Performed
 pub mod Expired
 pub mod Sought
+pub mod Answering
+pub mod Picked

@@ -62,3 +62,10 @@ live-long s n rows live xs p d e l q len =
     let low = ltb-false (length xs) (length (seenRows s (take n rows) xs) * partSize (judged s)) (sym q) in
     let size = ap length e ∙ length-take-le n rows l ∙ sym len in
     subst (λ m. m * partSize (judged s) ≤ length xs) (sym size) low
+
+pub not-short : {P : Type 0} (s : Settings) (n : ℕ) (rows : List Row) (xs : List (Place P)) (p d : ℕ)
+    → false ≡ short (record { settings = judged s; rows = seenRows s (take n rows) xs; posts = p; day = d; places = length xs })
+    → length (seenRows s (take n rows) xs) ≡ n
+    → n * partSize (judged s) ≤ length xs
+not-short s n rows xs p d q len =
+    subst (λ m. m * partSize (judged s) ≤ length xs) len (ltb-false (length xs) (length (seenRows s (take n rows) xs) * partSize (judged s)) (sym q))
