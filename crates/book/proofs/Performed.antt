@@ -31,14 +31,14 @@ use Rattle.rules.proofs.Upheld.{post-fits, runs-hold}
 use Rattle.term.specs.Formulas.{Rule}
 
 -- a book as seen after a change, by its parts
-pub seen-after : {P : Type 0} (s s1 : Settings) (n n1 p p1 d d1 m : ℕ) (rows : List Row) (ys : List (Place P)) (v : View P)
-    → s1 ≡ s → n1 ≡ n → p1 ≡ p → d1 ≡ d → length ys ≡ m
+pub seen-after : {P : Type 0} (s s1 : Settings) (n n1 p pa d da m : ℕ) (rows : List Row) (ys : List (Place P)) (v : View P)
+    → s1 ≡ s → n1 ≡ n → pa ≡ p → da ≡ d → length ys ≡ m
     → record { settings = judged s; rows = seenRows s (take n rows) ys; posts = p; day = d; places = m } ≡ v
-    → record { settings = judged s1; rows = seenRows s1 (take n1 rows) ys; posts = p1; day = d1; places = length ys } ≡ v
-seen-after s s1 n n1 p p1 d d1 m rows ys v e1 e2 e3 e4 e5 e =
-    ap (λ t. record { settings = judged t; rows = seenRows t (take n1 rows) ys; posts = p1; day = d1; places = length ys }) e1
-    ∙ ap (λ i. record { settings = judged s; rows = seenRows s (take i rows) ys; posts = p1; day = d1; places = length ys }) e2
-    ∙ ap (λ i. record { settings = judged s; rows = seenRows s (take n rows) ys; posts = i; day = d1; places = length ys }) e3
+    → record { settings = judged s1; rows = seenRows s1 (take n1 rows) ys; posts = pa; day = da; places = length ys } ≡ v
+seen-after s s1 n n1 p pa d da m rows ys v e1 e2 e3 e4 e5 e =
+    ap (λ t. record { settings = judged t; rows = seenRows t (take n1 rows) ys; posts = pa; day = da; places = length ys }) e1
+    ∙ ap (λ i. record { settings = judged s; rows = seenRows s (take i rows) ys; posts = pa; day = da; places = length ys }) e2
+    ∙ ap (λ i. record { settings = judged s; rows = seenRows s (take n rows) ys; posts = i; day = da; places = length ys }) e3
     ∙ ap (λ i. record { settings = judged s; rows = seenRows s (take n rows) ys; posts = p; day = i; places = length ys }) e4
     ∙ ap (λ i. record { settings = judged s; rows = seenRows s (take n rows) ys; posts = p; day = d; places = i }) e5
     ∙ e
