@@ -2,7 +2,8 @@
 //!
 //!     compare run RACK COUNTERPART SEED COUNT     the named feeds, and COUNT random ones
 //!     compare feed SEED NUMBER                    writes one random feed to standard output
-//!     compare steady KIND WINDOW POSTS PICKS      writes a feed for timing; KIND is 0 hull or 1 joinery
+//!     compare steady KIND WINDOW POSTS PICKS      writes a feed for timing, with PICKS picks after each post;
+//!                                                 KIND is 0 hull or 1 joinery
 
 mod feeds;
 
@@ -10,6 +11,7 @@ use std::collections::BTreeMap;
 use std::env;
 use std::fs::{self, File};
 use std::io::{self, Write};
+use std::iter;
 use std::path::{Path, PathBuf};
 use std::process::{Command, ExitCode, Output, Stdio};
 use std::time::{Duration, Instant};
@@ -139,7 +141,7 @@ impl Comparison {
 
     fn summary(&self, seed: u64, seconds: f64) {
         println!(
-            "compare-feeds: seed {seed}: {} feeds of {} bytes in all, {} bytes printed, the same by both; {seconds:.1} s",
+            "compare-feeds: seed {seed}: {} feeds, {} bytes; both print the same {} bytes; {seconds:.1} s",
             self.feeds, self.bytes_read, self.bytes_printed
         );
         for kind in EXPECTED {
@@ -230,7 +232,8 @@ fn compare(rack: &str, counterpart: &str, seed: u64, count: u64) -> io::Result<E
     };
     let named = feeds::named().into_iter().map(|named| (named.name.to_string(), named.feed));
     let random = (0..count).map(|number| (format!("seed {seed}, feed {number}"), feeds::random(seed, number)));
-    for (name, feed) in named.chain(random) {
+    let long = iter::once_with(|| ("1,000,000 posts".to_string(), feeds::a_million_posts()));
+    for (name, feed) in named.chain(random).chain(long) {
         match comparison.feed(&feed) {
             Ok(()) => {}
             Err(Trouble::Failed(error)) => return Err(error),
@@ -248,8 +251,7 @@ fn compare(rack: &str, counterpart: &str, seed: u64, count: u64) -> io::Result<E
     }
     comparison.summary(seed, start.elapsed().as_secs_f64());
     if count >= 1000 {
-        let missing: Vec<&str> =
-            EXPECTED.into_iter().filter(|kind| !comparison.lines.contains_key(*kind)).collect();
+        let missing: Vec<&str> = EXPECTED.into_iter().filter(|kind| !comparison.lines.contains_key(*kind)).collect();
         if !missing.is_empty() {
             println!("compare-feeds: no feed gave: {}", missing.join("; "));
             return Ok(ExitCode::FAILURE);
@@ -274,7 +276,9 @@ fn main() -> ExitCode {
             write_out(&feeds::steady(*kind as u8, *window as u32, *posts as u32, *picks as u32))
         }
         _ => {
-            eprintln!("usage: compare run RACK COUNTERPART SEED COUNT | feed SEED NUMBER | steady KIND WINDOW POSTS PICKS");
+            eprintln!(
+                "usage: compare run RACK COUNTERPART SEED COUNT | feed SEED NUMBER | steady KIND WINDOW POSTS PICKS"
+            );
             return ExitCode::from(2);
         }
     };

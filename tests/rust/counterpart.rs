@@ -525,7 +525,7 @@ impl Session {
                 };
             }
             Command::Panel { day, offsets } => {
-                if offsets.iter().any(|&offset| offset < -GREATEST_OFFSET || offset > GREATEST_OFFSET) {
+                if offsets.iter().any(|offset| !(-GREATEST_OFFSET..=GREATEST_OFFSET).contains(offset)) {
                     return Err(Refusal::BadOffset);
                 }
                 let Stage::Panels(book) = &mut self.stage else { return Err(Refusal::OutOfPlace) };
@@ -756,8 +756,7 @@ impl<P: Piece> Watch<P> {
             self.meet(what, 1);
             match outcome {
                 Ok(answer) => {
-                    let (radius, least, f) =
-                        (u64::from(answer.radius), u64::from(least), u64::from(settings.fineness));
+                    let (radius, least, f) = (u64::from(answer.radius), u64::from(least), u64::from(settings.fineness));
                     if answer.fine {
                         assert!(f * radius <= (2 * f + 4) * least, "a fine radius {radius} where {least} would do");
                     } else {

@@ -119,6 +119,11 @@ impl Chance {
         self.between(u32::from(low), u32::from(high)) as u8
     }
 
+    /// A number as much below 0 as above.
+    fn about(&mut self, most: i32) -> i32 {
+        self.between(0, 2 * most as u32) as i32 - most
+    }
+
     /// True once in so many times.
     fn once_in(&mut self, times: u32) -> bool {
         self.between(1, times) == 1
@@ -440,11 +445,11 @@ impl Maker {
         let often = if self.settings.term == BY_DAYS { 3 } else { 8 };
         if self.chance.once_in(often) {
             let n = self.settings.n;
-            let more = match self.chance.between(1, 40) {
-                1..=26 => 1,
-                27..=34 => self.chance.between(1, 4),
-                35..=37 => n,
-                38 | 39 => n.saturating_sub(1),
+            let more = match self.chance.between(1, 200) {
+                1..=130 => 1,
+                131..=170 => self.chance.between(1, 4),
+                171..=185 => n,
+                186..=199 => n - 1,
                 _ => MILLION - self.day.min(MILLION),
             };
             self.day = (self.day + more).min(MILLION);
@@ -559,7 +564,6 @@ pub fn named() -> Vec<Named> {
         Named { name: "800 places needed", feed: places(8, 9, 35) },
         Named { name: "801 places needed", feed: places(9, 2, 40) },
         Named { name: "days up to 1,000,000", feed: days_to_a_million() },
-        Named { name: "1,000,000 posts", feed: a_million_posts() },
     ]
 }
 
@@ -639,7 +643,7 @@ fn days_to_a_million() -> Vec<u8> {
 
 /// The 1,000,000th post is taken and makes the first one expire; after it every post is refused, for that alone
 /// wherever the refusals of lower number or lower layer do not apply. Turning the day and picking go on.
-fn a_million_posts() -> Vec<u8> {
+pub fn a_million_posts() -> Vec<u8> {
     let mut out = Writer::default();
     out.settings(Settings { kind: JOINERY, k: 2, fineness: 2, fine_limit: 3, term: BY_NUMBER, n: 999_999 });
     for radius in [1, 2, 4, 8, 16, 32] {
@@ -671,8 +675,8 @@ fn a_million_posts() -> Vec<u8> {
     out.bytes
 }
 
-/// A steady stream for timing: so many posts in a book with this window by number, each of the last `picks` of
-/// them followed by a pick. The pieces lie about twelve places that slowly wander.
+/// A steady stream for timing: so many posts in a book with this window by number, and so many picks after each
+/// post. Panels lie about eight places and parts about twelve, which slowly wander.
 pub fn steady(kind: u8, window: u32, posts: u32, picks: u32) -> Vec<u8> {
     let mut out = Writer::default();
     out.settings(Settings { kind, k: 5, fineness: 8, fine_limit: 10, term: BY_NUMBER, n: window });
@@ -684,26 +688,21 @@ pub fn steady(kind: u8, window: u32, posts: u32, picks: u32) -> Vec<u8> {
     }
     out.open();
     let mut chance = Chance::new(7, u64::from(kind));
-    let mut panels = [[0; 8]; 12];
-    let mut words = [0; 12];
-    for at in 0..12 {
-        panels[at] = std::array::from_fn(|_| chance.between(0, 800_000) as i32 - 400_000);
-        words[at] = chance.next();
-    }
+    let mut panels: [[i32; 8]; 8] = [[0; 8]; 8].map(|panel| panel.map(|_| chance.about(400_000)));
+    let mut words: [u64; 12] = [0; 12].map(|_| chance.next());
     for number in 0..posts {
-        let at = chance.between(0, 11) as usize;
         if kind == HULL {
-            for offset in &mut panels[at] {
-                *offset = (*offset + chance.between(0, 200) as i32 - 100).clamp(-480_000, 480_000);
-            }
-            out.panel(number / 60, panels[at].map(|offset| offset + chance.between(0, 20_000) as i32 - 10_000));
+            let place = &mut panels[chance.between(0, 7) as usize];
+            *place = place.map(|offset| (offset + chance.about(100)).clamp(-480_000, 480_000));
+            out.panel(number / 60, place.map(|offset| offset + chance.about(10_000)));
         } else {
+            let place = &mut words[chance.between(0, 11) as usize];
             if chance.once_in(100) {
-                words[at] ^= 1 << chance.between(0, 63);
+                *place ^= 1 << chance.between(0, 63);
             }
-            out.part(number / 60, words[at] ^ 1 << chance.between(0, 63) ^ 1 << chance.between(0, 63));
+            out.part(number / 60, *place ^ 1 << chance.between(0, 63) ^ 1 << chance.between(0, 63));
         }
-        if number + picks >= posts {
+        for _ in 0..picks {
             out.pick();
         }
     }
