@@ -1,4 +1,5 @@
 pub mod Limits
 pub mod Hull
 pub mod Joinery
+pub mod Combined
 pub mod Laid

@@ -1,9 +1,10 @@
 //! A tape that stops at a limit.
 
 ghost use mathlib.Core.Path.{_≡_};
-ghost use Prim.Native.Nat.{min, _<_, _≤_};
+ghost use Prim.Native.Nat.{_<_, _≤_};
 ghost use Rattle.refusal.specs.Makes.{MadeIf, OneToMillion};
 ghost use Rattle.refusal.specs.declared.Refusal.the-variants.{SettingOutOfRange};
+ghost use Rattle.tape.specs.Combined.{cutOff};
 ghost use Rattle.tape.specs.Laid.{Laid};
 ghost use Rattle.tape.specs.Limits.{limit};
 use crate::distance::Tape;
@@ -31,7 +32,7 @@ impl<T: Drop> Cut<T> {
 
 /// The smaller of the inner distance and the cap.
 pub impl<P, T: Tape<P>> Tape<P> for Cut<T> as CutTape {
-    ghost dist = { λ t a b. min (T·Tape .dist (t .inner) a b) (t .cap) };
+    ghost dist = { λ t a b. cutOff (t .cap) (T·Tape .dist (t .inner) a b) };
 
     fn measure(&self, a: &P, b: &P) -> u32 {
         self.inner.measure(a, b).min(self.cap)

@@ -1,7 +1,6 @@
 //! Pieces told by two things at once, and their tape.
 
-ghost use Prim.Native.Nat.{min, _+_};
-ghost use Rattle.tape.specs.Limits.{limit};
+ghost use Rattle.tape.specs.Combined.{together};
 use crate::distance::Tape;
 
 /// A joined piece: two pieces, each of any kind.
@@ -20,7 +19,7 @@ pub struct JoinedTape<S, T> {
 
 /// The sum of both distances, or 1,000,000 if that is smaller.
 pub impl<A, B, S: Tape<A>, T: Tape<B>> Tape<Joined<A, B>> for JoinedTape<S, T> as TapeOfJoined {
-    ghost dist = { λ t a b. min (S·Tape .dist (t .left) (a .left) (b .left) + T·Tape .dist (t .right) (a .right) (b .right)) limit };
+    ghost dist = { λ t a b. together (S·Tape .dist (t .left) (a .left) (b .left)) (T·Tape .dist (t .right) (a .right) (b .right)) };
 
     fn measure(&self, a: &Joined<A, B>, b: &Joined<A, B>) -> u32 {
         let sum = self.left.measure(&a.left, &b.left) + self.right.measure(&a.right, &b.right);
