@@ -3,6 +3,8 @@
 //! Judged settings begin a book that is being set up; radii are entered; opening moves it into an open book, which
 //! takes no more radii. The shelf, on which its pieces lie, is lent to each call, and so are the tape and the term.
 
+#![tactic(auto)]
+
 mod choosing;
 pub mod open;
 mod opening;

@@ -1,5 +1,7 @@
 //! The book's calls run on examples: the worked feed, the edge of every refusal, and several kinds of pieces.
 
+#![tactic(auto)]
+
 #[cfg(test)]
 mod calls;
 #[cfg(test)]

@@ -2,6 +2,8 @@
 //!
 //! `specs/Commands.antt` is the one definition of the bytes: writing and reading go by it.
 
+#![tactic(auto)]
+
 ghost use Rattle.std.specs.Prelude.{◌≡◌, ℕ, ◌^◌, ◌<◌, length, pos, FitsSigned, slice_index_or};
 ghost use Rattle.std.specs.Int.{w32};
 ghost use Rattle.command.specs.Commands.{Carried, size_of, verb_of};

@@ -3,6 +3,8 @@
 //! Nothing here runs. Each function is a theorem: its contract is the statement, and the check demands the
 //! proof. A choice of centres reaches as far as the farthest piece lies from its nearest centre.
 
+#![tactic(auto)]
+
 ghost use Rattle.cover.specs.Choices.{FarthestFirst, Pigeonhole};
 
 /// Of pieces that lie at least e apart, one to a centre and one more, two share their nearest centre.

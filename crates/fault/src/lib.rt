@@ -1,5 +1,7 @@
 //! A refusal together with the place in a feed that it belongs to.
 
+#![tactic(auto)]
+
 ghost use Rattle.std.specs.Prelude.{◌≡◌, Some};
 ghost use Rattle.refusal.specs.Codes.{code};
 ghost use Rattle.fault.specs.Faults.{refused_at, located_at, fault_text};

@@ -1,5 +1,7 @@
 //! Makes feeds from text, and text from feeds.
 
+#![tactic(auto)]
+
 ghost use Rattle.std.specs.Prelude.{◌≡◌};
 ghost use Rattle.feed.specs.Jobs.{plain_job, option_job};
 

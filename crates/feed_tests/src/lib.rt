@@ -1,5 +1,7 @@
 //! Feeds written, read and listed, on examples.
 
+#![tactic(auto)]
+
 #[cfg(test)]
 mod tests {
     use command::Command;

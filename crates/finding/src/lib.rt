@@ -1,5 +1,7 @@
 //! How a find and a hand out read the shelf.
 
+#![tactic(auto)]
+
 pub mod hand;
 pub mod seek;
 

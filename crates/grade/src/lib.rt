@@ -1,5 +1,7 @@
 //! Sheet grades, the tables that say how far apart they are, and the tape over a checked table.
 
+#![tactic(auto)]
+
 mod flaw;
 pub mod sheet;
 pub mod table;

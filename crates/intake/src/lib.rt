@@ -1,5 +1,7 @@
 //! A feed that arrives bit by bit: what stands at the front of the bytes that have come so far.
 
+#![tactic(auto)]
+
 ghost use Rattle.intake.specs.Arrivals.{Arrives};
 
 use command::Command;

@@ -1,5 +1,7 @@
 //! What a pick says to those who hang the boards.
 
+#![tactic(auto)]
+
 use rules::Picked;
 
 pub mod text;

@@ -1,5 +1,7 @@
 //! The text of a command, as one writes it by hand.
 
+#![tactic(auto)]
+
 pub mod text;
 
 pub use text::{LINE_ROOM, put_text};

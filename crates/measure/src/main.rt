@@ -1,5 +1,7 @@
 //! Answers requests about pieces, tapes and terms, one to a line.
 
+#![tactic(auto)]
+
 use anyhow::anyhow;
 use grade::CheckedTable;
 use std::env;

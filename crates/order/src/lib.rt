@@ -1,5 +1,7 @@
 //! Commands whose pieces are made.
 
+#![tactic(auto)]
+
 ghost use Rattle.std.specs.Prelude.{◌≡◌};
 ghost use Rattle.order.specs.Orders.{order_of, panel_of};
 ghost use Rattle.fault.specs.Faults.{located_at};

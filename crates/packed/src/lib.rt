@@ -1,5 +1,7 @@
 //! Lists of places, packed from the front of a slice: which of them pass a test, and what stays.
 
+#![tactic(auto)]
+
 pub mod search;
 pub mod stay;
 pub mod test;

@@ -1,5 +1,7 @@
 //! How a pick reads the shelf: the trial that finds its radius, and the centres, farthest_first_lem.
 
+#![tactic(auto)]
+
 pub mod centres;
 pub mod trial;
 

@@ -1,6 +1,8 @@
 //! Runs a feed through a book: takes commands from standard input as they arrive, and prints a line for each pick and
 //! each refusal.
 
+#![tactic(auto)]
+
 ghost use Rattle.std.specs.Prelude.{◌≡◌, ℕ, ◌+◌, ◌<◌, ◌≤◌, length, IfSome, IfOk, slice_index};
 
 use anyhow::anyhow;

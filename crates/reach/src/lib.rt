@@ -1,5 +1,7 @@
 //! How far a board reaches: one text for every kind of piece, every tape and every term.
 
+#![tactic(auto)]
+
 ghost use Rattle.std.specs.Prelude.{◌≡◌, ℕ, ◌≤◌};
 ghost use Rattle.reach.specs.Covers.{Covers};
 

@@ -2,6 +2,8 @@
 //!
 //! `specs/Codes.antt` is the one table: every contract that speaks of a refusal goes by it.
 
+#![tactic(auto)]
+
 ghost use Rattle.std.specs.Prelude.{◌≡◌, Some};
 ghost use Rattle.refusal.specs.Codes.{code, depth};
 ghost use Rattle.refusal.specs.Texts.{breach_text, reason_text, refusal_text};

@@ -1,5 +1,7 @@
 //! One radius of a book: its row, its part of the shelf, and what a post and a turn of the day do to them.
 
+#![tactic(auto)]
+
 pub mod change;
 mod coarse;
 mod fine;

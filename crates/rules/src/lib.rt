@@ -4,6 +4,8 @@
 //! holds, `Steps` what a post and a turn of the day do to it, `Picking` how a pick chooses, and `Calls` what each call
 //! answers, refuses and leaves. `Runs` says which runs there are, and `Promises` what is promised of them all.
 
+#![tactic(auto)]
+
 ghost use Rattle.rules.specs.Promises.{RunsHold, RunsHoldUnder};
 
 use tape::Tape;

@@ -1,5 +1,7 @@
 //! Commands as text, one to a line.
 
+#![tactic(auto)]
+
 pub mod line;
 pub mod mistake;
 mod number;

@@ -4,6 +4,8 @@
 //! book is opened, and pieces, days and picks follow. `specs/Halls.antt` says what each command answers and what it
 //! leaves, `specs/Talks.antt` what all the answers of a session promise.
 
+#![tactic(auto)]
+
 mod beginning;
 pub mod session;
 mod taking;

@@ -3,6 +3,8 @@
 //! A tape answers a whole number from 0 to 1,000,000 that obeys the laws of a distance: a piece is at 0 from
 //! itself, the order of two pieces does not matter, and no way round through a third piece is shorter.
 
+#![tactic(auto)]
+
 pub mod cut;
 pub mod distance;
 pub mod hull;

@@ -3,6 +3,8 @@
 //! A piece is posted with an arrival, its number among the posts, and a day. The window of a book is the
 //! pieces that still count, and a term tells which those are.
 
+#![tactic(auto)]
+
 pub mod last;
 pub mod pair;
 pub mod span;

@@ -1,5 +1,7 @@
 //! Commands written into bytes and read from them.
 
+#![tactic(auto)]
+
 pub mod law;
 pub mod reading;
 pub mod writing;
