@@ -27,6 +27,7 @@ APART = {
     "last-of": "last_of_lem",
     "width-by": "width_by_lem",
     "taken_at": "taken_at_lem",
+    "pick-tests": "pick_tests_lem",
     "getD-cut": "get_or-cut",
     "is-out-the-next-day": "is_out_the_next_day",
 }

@@ -1,5 +1,5 @@
 -- What is left after an expiry fits where the lists did.
-use Rattle.std.proofs.Common.{◌≡◌, ℕ, zero, suc, ◌+◌, ◌*◌, ◌<◌, ◌≤◌, Bool, true, false, cond, List, [], ◌∷◌, map, length, get_or, take, drop, filter, sym, ap, ◌∙◌, subst, arith, length-take}
+use Rattle.std.proofs.Common.{ℕ, zero, suc, ◌<◌, ◌≤◌, Bool, true, false, cond, List, [], ◌∷◌, map, length, get_or, take, drop, filter, arith, length-take}
 use Rattle.std.specs.List.{AllByRecursion as All}
 use Rattle.packed.specs.Lists.{cut}
 use Rattle.picking.specs.Trials.{no_row}

@@ -1,8 +1,7 @@
 -- A change of one part of the shelf is a change of one row as seen.
-use Rattle.std.proofs.Common.{◌≡◌, ℕ, zero, suc, ◌+◌, ◌-◌, ◌*◌, ◌<◌, ◌≤◌, List, [], ◌∷◌, length, get_or, take, drop, set, sym, refl, ap, ◌∙◌, subst, mul-le-mul_right, suc-mul, add_comm, zero-add, zero-mul, arith}
+use Rattle.std.proofs.Common.{◌≡◌, ℕ, zero, suc, ◌+◌, ◌*◌, ◌<◌, List, [], ◌∷◌, length, take, drop, set, sym, ap, ◌∙◌, subst, suc-mul, add_comm, zero-add, zero-mul, arith}
 use Rattle.std.proofs.lemmas.List.{drop-drop, drop-take, take-take}
 use Rattle.packed.specs.Lists.{Between, cut}
-use Rattle.packed.proofs.Betweens.{between_wider}
 use Rattle.row.specs.Seen.{judged, seen_row, seen_rows}
 use Rattle.row.specs.declared.kept.Row.{Row}
 use Rattle.row.specs.declared.settings.Settings.{Settings}

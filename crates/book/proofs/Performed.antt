@@ -1,5 +1,5 @@
 -- From what a call did to its rule, and to the run that it extends.
-use Rattle.std.proofs.Common.{◌≡◌, ℕ, suc, ◌+◌, ◌<◌, ◌≤◌, Bool, true, false, List, ◌∷◌, map, length, get_or, take, Some, None, Ok, Err, Result, sym, refl, ap, ◌∙◌, subst, add-one, arith}
+use Rattle.std.proofs.Common.{◌≡◌, ℕ, ◌≤◌, List, ◌∷◌, length, take, Some, None, Ok, Err, sym, ap, ◌∙◌, subst}
 use Rattle.cover.specs.Distances.{Distance, Metric}
 use Rattle.refusal.specs.declared.Refusal.{Refusal}
 use Rattle.refusal.specs.declared.Refusal.TheVariants.{ShelfTooShort}
@@ -13,9 +13,7 @@ use Rattle.picking.proofs.Shelves.{length_seen}
 use Rattle.std.proofs.lemmas.List.{length-take-le}
 use Rattle.std.proofs.lemmas.Bool.{ltb-false}
 use Rattle.rules.specs.Promises.{Fits, Served, story}
-use Rattle.rules.specs.Runs.{Event, Opened, Post, Reached, Stage, Turn}
-use Rattle.rules.specs.Runs as runs
-use Rattle.rules.specs.Steps.{post_row}
+use Rattle.rules.specs.Runs.{Event, Opened, Reached}
 use Rattle.rules.specs.Views.{View}
 use Rattle.rules.specs.Words.{after, leaves}
 use Rattle.rules.specs.declared.place.Place.{Place}

@@ -1,5 +1,5 @@
 -- From what a pick did to its rule, and to what holds of it in a run.
-use Rattle.std.proofs.Common.{◌≡◌, ℕ, ◌≤◌, false, ◌||◌, ltb, List, ◌∷◌, length, Some, None, Ok, Err, Option, Result, sym, refl, ap, ◌∙◌, subst}
+use Rattle.std.proofs.Common.{◌≡◌, ℕ, ◌≤◌, false, ◌||◌, ltb, List, ◌∷◌, length, Some, None, Err, Option, Result, sym, refl, ap, ◌∙◌, subst}
 use Rattle.std.proofs.lemmas.Bool.{ltb-false, or_parts}
 use Rattle.picking.specs.Trials.{first_passing, taken_at}
 use Rattle.picking.proofs.Takings.{taken-seen}

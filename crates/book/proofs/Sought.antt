@@ -1,5 +1,5 @@
 -- What is sought on the shelf, and refused where the shelf is too short.
-use Rattle.std.proofs.Common.{◌≡◌, ℕ, ◌*◌, ◌<◌, ◌≤◌, true, false, eqb, ltb, List, [], ◌∷◌, length, get_or, take, Err, Option, Result, sym, refl, ap, ◌∙◌, subst, arith}
+use Rattle.std.proofs.Common.{◌≡◌, ℕ, ◌*◌, ◌<◌, ◌≤◌, true, false, eqb, List, [], ◌∷◌, length, get_or, take, Err, Option, Result, sym, ap, ◌∙◌, subst, arith}
 use Rattle.std.proofs.lemmas.List.{get_or-take, length-take-le}
 use Rattle.std.proofs.lemmas.Bool.{ltb-false}
 use Rattle.picking.specs.Trials.{no_row}
@@ -9,7 +9,7 @@ use Rattle.row.specs.Seen.{Within, judged, seen_rows}
 use Rattle.row.specs.declared.kept.Row.{Row}
 use Rattle.row.specs.declared.settings.Settings.{Settings}
 use Rattle.rules.specs.Calls.{FindRule, HandOutRule, lying_from, piece_of, place_of, short, why_not_seek}
-use Rattle.rules.specs.Limits.{needed, part_size}
+use Rattle.rules.specs.Limits.{part_size}
 use Rattle.rules.specs.Views as view
 use Rattle.rules.specs.Views.{View}
 use Rattle.rules.specs.Words.{after, first_of, first_reason, ok_or}

@@ -1,10 +1,10 @@
 -- One radius more is changed.
-use Rattle.std.proofs.Common.{◌≡◌, ℕ, suc, ◌+◌, ◌*◌, ◌<◌, ◌≤◌, List, map, length, get_or, take, set, sym, refl, ap, ◌∙◌, subst, add-one, arith}
+use Rattle.std.proofs.Common.{◌≡◌, ℕ, ◌+◌, ◌*◌, ◌<◌, ◌≤◌, List, map, length, get_or, take, set, sym, ap, ◌∙◌, subst, add-one, arith}
 use Rattle.std.specs.List.{AllByRecursion as All}
 use Rattle.std.proofs.ByRecursion.{All-get_or}
 use Rattle.std.proofs.lemmas.List.{get_or-map, get_or-take, length-map, length-take-le}
 use Rattle.packed.specs.Lists.{cut}
-use Rattle.picking.proofs.Shelves.{length_seen, seen_at}
+use Rattle.picking.proofs.Shelves.{seen_at}
 use Rattle.picking.specs.Trials.{no_row}
 use Rattle.row.specs.Seen.{judged, seen_row, seen_rows}
 use Rattle.row.specs.declared.kept.Row.{Row}

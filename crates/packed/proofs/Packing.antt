@@ -1,5 +1,5 @@
 -- A loop that moves what is marked to the front.
-use Rattle.std.proofs.Common.{◌≡◌, ℕ, zero, suc, ◌+◌, ◌-◌, ◌<◌, ◌≤◌, Bool, true, false, cond, List, [], ◌∷◌, ◌++◌, map, length, get_or, take, drop, set, filter, sym, refl, ap, ◌∙◌, append-nil, add-one, arith, length-drop, length-set}
+use Rattle.std.proofs.Common.{◌≡◌, ℕ, ◌+◌, ◌-◌, ◌<◌, ◌≤◌, Bool, true, false, cond, List, [], ◌∷◌, ◌++◌, map, length, get_or, take, drop, set, filter, sym, refl, ap, ◌∙◌, append-nil, arith, length-drop, length-set}
 use Rattle.std.proofs.lemmas.List.{drop_at, drop_more, drop-set-lt, length-take-le, take_all, take-append-le, take_more, take_more_set}
 use borrow.Rule.Slice.PartMut.{put_mid}
 use Rattle.packed.specs.Lists.{cut, picked}

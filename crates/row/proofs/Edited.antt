@@ -1,16 +1,15 @@
 -- A change to one list of a part leaves the others.
-use Rattle.std.proofs.Common.{◌≡◌, ℕ, ◌+◌, ◌*◌, ◌≤◌, List, Option, sym, refl, ap, ◌∙◌, arith}
+use Rattle.std.proofs.Common.{◌≡◌, ℕ, ◌≤◌, List, Option, arith}
 use Rattle.packed.specs.Lists.{Between, cut}
 use Rattle.packed.proofs.Betweens.{cut_above, cut_below}
 use Rattle.rules.specs.Limits.{attractor_room, representative_room}
 use Rattle.rules.specs.Views.{Entry}
-use Rattle.rules.specs.Views as view
 use Rattle.rules.specs.declared.place.Place.{Place}
 use Rattle.term.specs.declared.window.Stamp.{Stamp}
 use Rattle.row.specs.declared.kept.Row.{Row}
 use Rattle.row.specs.declared.settings.Settings.{Settings}
 use Rattle.row.specs.Edits.{with_attractors, with_fine, with_representatives}
-use Rattle.row.specs.Seen.{Within, entries, firsts_at, judged, latests_at, seen_row}
+use Rattle.row.specs.Seen.{entries, firsts_at, latests_at, seen_row}
 
 pub attractors_edited : {P : Type 0} (s : Settings) (row : Row) (n : ℕ) (xs ys : List (Place P)) (zs : List (Place P))
     → Between 0 (attractor_room s.k) xs ys

@@ -1,10 +1,9 @@
 -- Fine entries as two lists.
-use Rattle.std.proofs.Common.{◌≡◌, ℕ, zero, suc, ◌+◌, ◌<◌, ◌≤◌, Bool, true, false, cond, ◌&&◌, List, [], ◌∷◌, ◌++◌, map, length, take, drop, filter, sym, refl, ap, ◌∙◌, arith}
+use Rattle.std.proofs.Common.{◌≡◌, ℕ, suc, ◌+◌, ◌≤◌, Bool, true, false, cond, ◌&&◌, List, [], ◌∷◌, map, length, take, filter, refl, ap, ◌∙◌, arith}
 use Rattle.packed.specs.Lists.{Between, all_pass, cut, picked}
 use Rattle.packed.proofs.Alls.{kept_all}
 use Rattle.packed.proofs.Betweens.{cut_above, cut_below}
 use Rattle.packed.proofs.Packing.{length_cut}
-use Rattle.rules.specs.Views.{Entry}
 use Rattle.rules.specs.declared.place.Place.{Place}
 use Rattle.row.specs.Seen.{entries}
 

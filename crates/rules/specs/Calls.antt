@@ -1,5 +1,5 @@
 -- What each call answers, refuses and leaves, for every input. A refusal leaves everything as it was.
-use Rattle.std.specs.Prelude.{◌≡◌, ℕ, suc, ◌+◌, ◌*◌, Bool, true, not, ◌&&◌, ◌||◌, List, [], ◌∷◌, ◌++◌, map, length, drop, Some, None, Ok, Err, Option, Result, nat_eq, nat_le, nat_lt}
+use Rattle.std.specs.Prelude.{◌≡◌, ℕ, suc, ◌+◌, Bool, true, not, ◌&&◌, ◌||◌, List, [], ◌∷◌, ◌++◌, map, length, drop, Some, None, Ok, Err, Option, Result, nat_eq, nat_le, nat_lt}
 use Rattle.cover.specs.Distances.{Distance}
 use Rattle.refusal.specs.Makes.{MadeIf}
 use Rattle.refusal.specs.declared.Refusal.{Refusal}

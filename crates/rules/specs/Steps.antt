@@ -1,6 +1,6 @@
 -- What a post and a turn of the day do to one radius. `dist` is the tape's distance, and `counts` tells whether a
 -- piece of an arrival and a day counts, from the posts made and the day. Within a number is at most that number.
-use Rattle.std.specs.Prelude.{ℕ, suc, ◌+◌, ◌*◌, ◌/◌, Bool, cond, leb, List, [], ◌∷◌, ◌++◌, length, drop, Some, None, filter, Option, ◌==◌, nat_eq, nat_le}
+use Rattle.std.specs.Prelude.{ℕ, suc, ◌*◌, ◌/◌, Bool, cond, leb, List, [], ◌∷◌, ◌++◌, length, drop, Some, None, filter, Option, ◌==◌, nat_eq, nat_le}
 use Rattle.cover.specs.Distances.{Distance}
 use Rattle.term.specs.Formulas.{Rule}
 use Rattle.term.specs.declared.window.Stamp.{Stamp}

@@ -18,11 +18,11 @@ returns t c =
     let n = c.args.n in
     let k = c.args.count in
     let some : 0 < k = omega arith in
-    let end = c.put-hex-last.ensures.end in
+    let end = c.put_hex-last.ensures.end in
     record {
       end = omega arith;
-      front = c.put-digit.ensures.front
-          ∙ join (take c.args.at c.args.out.now) (take c.put-hex-last.result c.put-hex-last.new.out) (hex_digits (k - 1) (n / 16)) (hex_digits k n) (digit_glyph true (n % 16))
-          c.put-hex-last.ensures.front (hex_more k n some);
-      back = λ i h. c.put-digit.ensures.back i h ∙ c.put-hex-last.ensures.back i (omega arith);
+      front = c.put_digit.ensures.front
+          ∙ join (take c.args.at c.args.out.now) (take c.put_hex-last.result c.put_hex-last.new.out) (hex_digits (k - 1) (n / 16)) (hex_digits k n) (digit_glyph true (n % 16))
+          c.put_hex-last.ensures.front (hex_more k n some);
+      back = λ i h. c.put_digit.ensures.back i h ∙ c.put_hex-last.ensures.back i (omega arith);
     }

@@ -8,6 +8,6 @@ returns c =
     let at = c.args.at in
     record {
       end = refl;
-      front = take_more_set out at c.digit-byte.result c.requires.0 ∙ ap (λ b. take at out ++ (b ∷ [])) c.digit-byte.ensures;
-      back = λ k h. drop-set-lt k out at c.digit-byte.result (omega arith);
+      front = take_more_set out at c.digit_byte.result c.requires.at_in_bounds ∙ ap (λ b. take at out ++ (b ∷ [])) c.digit_byte.ensures;
+      back = λ k h. drop-set-lt k out at c.digit_byte.result (omega arith);
     }

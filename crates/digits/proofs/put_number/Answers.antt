@@ -2,8 +2,8 @@ use Rattle.std.proofs.Common.{◌≡◌, ◌+◌, ◌^◌, ◌<◌, ◌≤◌, �
 use Rattle.std.proofs.lemmas.Fmt.{length-decimal-le}
 use Rattle.digits.proofs.put_number.Goals as goal
 
-pub put-decimal-requires : goal.put-decimal-requires
-put-decimal-requires c =
+pub put_decimal-requires : goal.put_decimal-requires
+put_decimal-requires c =
     let value : c.from.result ≡ c.args.n = search rules in
     let fits : c.args.n < 2 ^ 32 = search rules in
     let short : length (decimal c.from.result) ≤ 10 = length-decimal-le 10 c.from.result (omega arith) (omega arith) (omega arith) in
@@ -14,11 +14,11 @@ returns c =
     let value : c.from.result ≡ c.args.n = search rules in
     let fits : c.args.n < 2 ^ 32 = search rules in
     let short : length (decimal c.args.n) ≤ 10 = length-decimal-le 10 c.args.n (omega arith) (omega arith) (omega arith) in
-    let end : c.put-decimal.result ≡ c.args.at + length (decimal c.args.n)
-    = c.put-decimal.ensures.end ∙ ap (λ n. c.args.at + length (decimal n)) value in
+    let end : c.put_decimal.result ≡ c.args.at + length (decimal c.args.n)
+    = c.put_decimal.ensures.end ∙ ap (λ n. c.args.at + length (decimal n)) value in
     record {
       end = end;
       bound = omega arith;
-      front = c.put-decimal.ensures.front ∙ ap (λ n. take c.args.at c.args.out.now ++ decimal n) value;
-      back = c.put-decimal.ensures.back;
+      front = c.put_decimal.ensures.front ∙ ap (λ n. take c.args.at c.args.out.now ++ decimal n) value;
+      back = c.put_decimal.ensures.back;
     }

@@ -7,8 +7,8 @@ use Rattle.finding.proofs.Handing.{no_piece}
 use Rattle.finding.proofs.Seeking.{seeking_here, seeking_none, seeking_on}
 use Rattle.finding.proofs.hand.piece_at.Goals as goal
 
-pub piece-in-row-requires : goal.piece-in-row-requires
-piece-in-row-requires g c =
+pub piece_in_row-requires : goal.piece_in_row-requires
+piece_in_row-requires g c =
     let j = c.loop-j.j in
     record {
       within = c.requires.within j c.loop-j-test.true;
@@ -23,7 +23,7 @@ returns-in-Some g c =
 pub loop-j-preserved : goal.loop-j-preserved
 loop-j-preserved g c =
     seeking_on piece_of refl no_piece (λ x. eqb x.0 c.args.at) c.args.settings c.args.rows.now c.args.places.now
-    c.loop-j.j c.loop-j-test.true c.in-default.ensures c.loop-j.invariant
+    c.loop-j.j c.loop-j-test.true c.in_default.ensures c.loop-j.invariant
 
 pub returns : goal.returns
 returns g c =

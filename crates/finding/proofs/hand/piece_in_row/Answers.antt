@@ -9,13 +9,13 @@ returns-in-Some g c =
     row_first piece_of refl no_piece (λ x. eqb x.0 c.args.at) c.args.settings c.args.start c.args.row
     c.args.places.now c.in-Some.piece c.requires.within c.requires.room c.in-Some.ensures
 
-pub returns-in-Some-piece-in : goal.returns-in-Some-piece-in
-returns-in-Some-piece-in g c =
+pub returns-in-Some-piece_in : goal.returns-in-Some-piece_in
+returns-in-Some-piece_in g c =
     row_second piece_of refl no_piece (λ x. eqb x.0 c.args.at) c.args.settings c.args.start c.args.row
-    c.args.places.now c.in-Some-piece-in.piece c.requires.within c.requires.room c.in-default.ensures c.in-Some-piece-in.ensures
+    c.args.places.now c.in-Some-piece_in.piece c.requires.within c.requires.room c.in_default.ensures c.in-Some-piece_in.ensures
 
 pub returns : goal.returns
 returns g c =
     row_third piece_of refl no_piece (λ x. eqb x.0 c.args.at) c.args.settings c.args.start c.args.row
-    c.args.places.now c.piece-in-3.result c.requires.within c.requires.room c.in-default.ensures c.in-default-piece-in.ensures
-    c.piece-in-3.ensures
+    c.args.places.now c.piece_in-3.result c.requires.within c.requires.room c.in_default.ensures c.in_default-piece_in.ensures
+    c.piece_in-3.ensures

@@ -8,13 +8,13 @@ returns-in-Some g c =
     row_first place_of refl no_place (λ x. eqb x.1.arrival c.args.arrival) c.args.settings c.args.at c.args.row
     c.args.places.now c.in-Some.place c.requires.within c.requires.room c.in-Some.ensures
 
-pub returns-in-Some-find-in : goal.returns-in-Some-find-in
-returns-in-Some-find-in g c =
+pub returns-in-Some-find_in : goal.returns-in-Some-find_in
+returns-in-Some-find_in g c =
     row_second place_of refl no_place (λ x. eqb x.1.arrival c.args.arrival) c.args.settings c.args.at c.args.row
-    c.args.places.now c.in-Some-find-in.place c.requires.within c.requires.room c.in-default.ensures c.in-Some-find-in.ensures
+    c.args.places.now c.in-Some-find_in.place c.requires.within c.requires.room c.in_default.ensures c.in-Some-find_in.ensures
 
 pub returns : goal.returns
 returns g c =
     row_third place_of refl no_place (λ x. eqb x.1.arrival c.args.arrival) c.args.settings c.args.at c.args.row
-    c.args.places.now c.find-in-3.result c.requires.within c.requires.room c.in-default.ensures c.in-default-find-in.ensures
-    c.find-in-3.ensures
+    c.args.places.now c.find_in-3.result c.requires.within c.requires.room c.in_default.ensures c.in_default-find_in.ensures
+    c.find_in-3.ensures

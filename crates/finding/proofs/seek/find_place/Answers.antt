@@ -6,8 +6,8 @@ use Rattle.rules.specs.Limits.{part_size}
 use Rattle.finding.proofs.Seeking.{no_place, seeking_here, seeking_none, seeking_on}
 use Rattle.finding.proofs.seek.find_place.Goals as goal
 
-pub find-in-row-requires : goal.find-in-row-requires
-find-in-row-requires g c =
+pub find_in_row-requires : goal.find_in_row-requires
+find_in_row-requires g c =
     let j = c.loop-j.j in
     record {
       within = c.requires.within j c.loop-j-test.true;
@@ -22,7 +22,7 @@ returns-in-Some g c =
 pub loop-j-preserved : goal.loop-j-preserved
 loop-j-preserved g c =
     seeking_on place_of refl no_place (λ x. eqb x.1.arrival c.args.arrival) c.args.settings c.args.rows.now c.args.places.now
-    c.loop-j.j c.loop-j-test.true c.in-default.ensures c.loop-j.invariant
+    c.loop-j.j c.loop-j-test.true c.in_default.ensures c.loop-j.invariant
 
 pub returns : goal.returns
 returns g c =

@@ -7,12 +7,12 @@ pub returns : goal.returns
 returns c =
     let bs = take c.args.at c.args.out.now in
     let first = c.put-digits.ensures.end in
-    let end = c.put-hex.ensures.end in
-    let few = c.hex-width.ensures.bound in
+    let end = c.put_hex.ensures.end in
+    let few = c.hex_width.ensures.bound in
     record {
       bound = (omega arith, omega arith);
-      front = then_text bs (take c.put-digits.result c.put-digits.new.out) (take c.put-hex.result c.put-hex.new.out) (codes " 0x") (hex_digits c.hex-width.result c.args.word)
-          c.put-digits.ensures.front c.put-hex.ensures.front
-          ∙ ap (λ n. bs ++ (codes " 0x" ++ hex_digits n c.args.word)) c.hex-width.ensures.is;
-      back = λ k h. c.put-hex.ensures.back k h ∙ c.put-digits.ensures.back k (omega arith);
+      front = then_text bs (take c.put-digits.result c.put-digits.new.out) (take c.put_hex.result c.put_hex.new.out) (codes " 0x") (hex_digits c.hex_width.result c.args.word)
+          c.put-digits.ensures.front c.put_hex.ensures.front
+          ∙ ap (λ n. bs ++ (codes " 0x" ++ hex_digits n c.args.word)) c.hex_width.ensures.is;
+      back = λ k h. c.put_hex.ensures.back k h ∙ c.put-digits.ensures.back k (omega arith);
     }

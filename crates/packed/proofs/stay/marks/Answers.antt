@@ -1,4 +1,4 @@
-use Rattle.std.proofs.Common.{◌≡◌, Bool, List, [], ◌∷◌, ◌++◌, map, length, get_or, take, sym, ap, ◌∙◌, arith, length-set}
+use Rattle.std.proofs.Common.{◌≡◌, Bool, [], ◌∷◌, ◌++◌, map, length, take, sym, ap, ◌∙◌, arith, length-set}
 use Rattle.rules.specs.declared.place.Place.{Place}
 use Rattle.std.proofs.lemmas.List.{map_more, take_all, take_more_set}
 use Rattle.packed.proofs.stay.marks.Goals as goal
@@ -12,11 +12,11 @@ loop-i-preserved g c =
     let inside = c.loop-i-test.true in
     let short = c.requires in
     let long = c.loop-i.invariant.1 in (
-      take_more_set c.loop-i.marks i c.passes-at.result (omega arith)
-          ∙ ap (λ bs. bs ++ (c.passes-at.result ∷ [])) c.loop-i.invariant.0
-          ∙ ap (λ b. map f (take i xs) ++ (b ∷ [])) (c.passes-at.ensures ∙ ap f c.index-list-i.is)
+      take_more_set c.loop-i.marks i c.passes_at.result (omega arith)
+          ∙ ap (λ bs. bs ++ (c.passes_at.result ∷ [])) c.loop-i.invariant.0
+          ∙ ap (λ b. map f (take i xs) ++ (b ∷ [])) (c.passes_at.ensures ∙ ap f c.index-list-i.is)
           ∙ sym (map_more f xs i x inside),
-      length-set c.loop-i.marks i c.passes-at.result ∙ long,
+      length-set c.loop-i.marks i c.passes_at.result ∙ long,
     )
 
 pub returns : goal.returns

@@ -5,10 +5,10 @@ use Rattle.packed.proofs.stay.pack.Goals as goal
 
 pub returns : goal.returns
 returns g c =
-    let inside : c.args.at ≤ length c.args.part.now = omega (arith, c.requires.0) in
-    let room : c.pack-all.result ≤ length c.pack-all.new.list = search (rules, overwrites) in
+    let inside : c.args.at ≤ length c.args.part.now = omega (arith, c.requires.len_in_bounds) in
+    let room : c.pack_all.result ≤ length c.pack_all.new.list = search (rules, overwrites) in
     record {
-      packed = cut_put_mid _ _ _ _ _ inside room ∙ (simp past_start at c.pack-all.ensures.packed);
+      packed = cut_put_mid _ _ _ _ _ inside room ∙ (simp past_start at c.pack_all.ensures.packed);
       within = search (rules, overwrites);
       between = record { before = search (rules, overwrites); after = search (rules, overwrites) };
     }

@@ -1,5 +1,5 @@
-use Rattle.std.proofs.Common.{◌≡◌, refl, arith}
-use Rattle.packed.proofs.Packing.{Packing, packing_all, packing_more_here, packing_more_no, packing_more_set}
+use Rattle.std.proofs.Common.{refl, arith}
+use Rattle.packed.proofs.Packing.{packing_all, packing_more_here, packing_more_no, packing_more_set}
 use Rattle.packed.proofs.stay.pack_all.Goals as goal
 use Rattle.packed.proofs.stay.pack_all.Goals.{then-marks-i, then-count-i, else-count-i, else-marks-i}
 

@@ -1,4 +1,4 @@
-use Rattle.std.proofs.Common.{ℕ, ◌≤◌, arith, rules}
+use Rattle.std.proofs.Common.{ℕ, arith}
 use Rattle.cover.specs.Choices.{farthest_first}
 use Rattle.rules.specs.Picking.{apart}
 use Rattle.rules.specs.declared.place.Place.{Place}
@@ -12,5 +12,5 @@ returns g c =
     let xs = c.args.list.now in
     let low =
     reach_small dist limit (λ x y. g.met.T.Tape.range c.args.tape.now x.piece y.piece) (farthest_first dist c.args.k xs) xs in
-    let is = c.choose-from.ensures.reached in
-    record { chosen = c.choose-from.ensures; small = omega arith }
+    let is = c.choose_from.ensures.reached in
+    record { chosen = c.choose_from.ensures; small = omega arith }

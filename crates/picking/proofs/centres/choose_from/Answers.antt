@@ -9,9 +9,9 @@ pub loop-count-init : goal.loop-count-init
 loop-count-init g c =
     let dist : Place g.row.P.Denot → Place g.row.P.Denot → ℕ = apart (g.T.Tape.dist c.args.tape.now) in
     let xs = c.args.list.now in
-    going_start dist (λ x. x.arrival) c.args.k xs c.args.answers.now c.measure-from.new.work c.farthest-far.result
+    going_start dist (λ x. x.arrival) c.args.k xs c.args.answers.now c.measure_from.new.work c.farthest-far.result
     c.index-list-0.result c.index-list-0-2.result c.requires.some c.requires.room c.requires.full
-    (c.measure-from.ensures ∙ ap (λ x. map (dist x) xs) c.index-list-0.is) (c.farthest-far.ensures.at, c.farthest-far.ensures.distance)
+    (c.measure_from.ensures ∙ ap (λ x. map (dist x) xs) c.index-list-0.is) (c.farthest-far.ensures.at, c.farthest-far.ensures.distance)
 
 pub loop-count-preserved : goal.loop-count-preserved
 loop-count-preserved g c =

@@ -3,8 +3,8 @@ use Rattle.std.proofs.ByRecursion.{All-get_or}
 use Rattle.picking.proofs.Choosing.{near_here, near_none, near_on}
 use Rattle.picking.proofs.trial.any_within.Goals as goal
 
-pub offset-bounds-list-at : goal.offset-bounds-list-at
-offset-bounds-list-at g c =
+pub offset_bounds-list-at : goal.offset_bounds-list-at
+offset_bounds-list-at g c =
     let low : get_or c.args.chosen.now c.loop-at.at-index 0 < length c.args.list.now =
     All-get_or (λ i. i < length c.args.list.now) c.args.chosen.now c.loop-at.at-index 0 c.loop-at-test.true c.requires in
     omega arith

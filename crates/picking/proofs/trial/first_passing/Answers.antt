@@ -11,44 +11,44 @@ radii-preserved-then-row-settings g c =
     passing_crowded (g.T.Tape.dist c.args.tape.now) c.args.settings c.args.rows.now c.args.places.now c.requires.long j
     c.radii-test.true (c.requires.within j c.radii-test.true) c.if-row-settings.true c.radii.invariant
 
-pub overflow-add-start-in-radii : goal.overflow-add-start-in-radii
-overflow-add-start-in-radii g c =
+pub overflow_add-start-in-radii : goal.overflow_add-start-in-radii
+overflow_add-start-in-radii g c =
     let j = c.radii.j in
     let room =
     kept_room c.args.settings c.args.rows.now j (length c.args.places.now) c.requires.long c.radii-test.true
     (c.requires.within j c.radii-test.true) in
     search rules
 
-pub overflow-add-list : goal.overflow-add-list
-overflow-add-list g c =
+pub overflow_add-list : goal.overflow_add-list
+overflow_add-list g c =
     let j = c.radii.j in
     let room =
     kept_room c.args.settings c.args.rows.now j (length c.args.places.now) c.requires.long c.radii-test.true
     (c.requires.within j c.radii-test.true) in
     search rules
 
-pub offset-bounds-places-start : goal.offset-bounds-places-start
-offset-bounds-places-start g c =
+pub offset_bounds-places-start : goal.offset_bounds-places-start
+offset_bounds-places-start g c =
     let j = c.radii.j in
     let room =
     kept_room c.args.settings c.args.rows.now j (length c.args.places.now) c.requires.long c.radii-test.true
     (c.requires.within j c.radii-test.true) in
     omega arith
 
-pub slice-bounds-list-end : goal.slice-bounds-list-end
-slice-bounds-list-end g c =
+pub slice_bounds-list-end : goal.slice_bounds-list-end
+slice_bounds-list-end g c =
     let j = c.radii.j in
     let room =
     kept_room c.args.settings c.args.rows.now j (length c.args.places.now) c.requires.long c.radii-test.true
     (c.requires.within j c.radii-test.true) in
     search rules
 
-pub loop-i-preserved-then-any-within : goal.loop-i-preserved-then-any-within
-loop-i-preserved-then-any-within g c =
+pub loop-i-preserved-then-any_within : goal.loop-i-preserved-then-any_within
+loop-i-preserved-then-any_within g c =
     let j = c.radii.j in
     trying_near (g.T.Tape.dist c.args.tape.now) (2 * (get_or c.args.rows.now j no_row).radius) c.args.settings.k
     (kept c.args.settings c.args.rows.now c.args.places.now j) c.loop-i.chosen c.loop-i.count c.loop-i.i
-    c.index-list-i.result c.loop-i.invariant c.loop-i-test.true c.index-list-i.is c.if-any-within.ensures
+    c.index-list-i.result c.loop-i.invariant c.loop-i-test.true c.index-list-i.is c.if-any_within.ensures
 
 pub radii-preserved : goal.radii-preserved
 radii-preserved g c =
@@ -57,7 +57,7 @@ radii-preserved g c =
     c.radii-test.true (c.requires.within j c.radii-test.true)
     (trying_full (g.T.Tape.dist c.args.tape.now) (2 * (get_or c.args.rows.now j no_row).radius) c.args.settings.k
     (kept c.args.settings c.args.rows.now c.args.places.now j) c.loop-i.chosen c.loop-i.count c.loop-i.i
-    c.index-list-i.result c.loop-i.invariant c.loop-i-test.true c.index-list-i.is c.if-any-within.ensures
+    c.index-list-i.result c.loop-i.invariant c.loop-i-test.true c.index-list-i.is c.if-any_within.ensures
     c.if-count-settings.true c.args.settings.few)
     c.radii.invariant
 
@@ -69,7 +69,7 @@ loop-i-preserved g c =
     let less : c.loop-i.count < c.args.settings.k = omega arith in
     trying_new (g.T.Tape.dist c.args.tape.now) (2 * (get_or c.args.rows.now j no_row).radius) c.args.settings.k
     (kept c.args.settings c.args.rows.now c.args.places.now j) c.loop-i.chosen c.loop-i.count c.loop-i.i
-    c.index-list-i.result c.loop-i.invariant c.loop-i-test.true c.index-list-i.is c.if-any-within.ensures less
+    c.index-list-i.result c.loop-i.invariant c.loop-i-test.true c.index-list-i.is c.if-any_within.ensures less
     c.args.settings.few
 
 pub returns-in-radii : goal.returns-in-radii

@@ -12,9 +12,9 @@ returns g c =
     let n = row.attractors in
     let xs = c.args.part.now in
     let x = c.args.place in
-    let w = c.requires.0 in
-    let long = c.requires.1 in
-    let room = c.requires.2 in
+    let w = c.requires.within_2 in
+    let long = c.requires.part_len in
+    let room = c.requires.attractors_le_k in
     record {
       seen = attractors_edited s row _ xs _ _ (between_set 0 (attractor_room s.k) n xs x (omega arith) (omega arith)) (take_more_set xs n x (omega arith));
       within = (omega arith, w.1, w.2);

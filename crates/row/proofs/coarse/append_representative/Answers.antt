@@ -13,8 +13,8 @@ returns-then-row-settings g c =
     let n = row.representatives in
     let xs = c.args.part.now in
     let x = c.args.place in
-    let w = c.requires.0 in
-    let long = c.requires.1 in
+    let w = c.requires.within_2 in
+    let long = c.requires.part_len in
     let room = c.if-row-settings.true in
     record {
       seen = λ h.

@@ -19,9 +19,9 @@ returns-then-i-row g c =
     let xs = c.args.part.now in
     let x = c.args.place in
     let a = c.args.attractor in
-    let z = c.standing-for.result in
-    let i = c.first-in-i.result in
-    let w = c.requires.0 in
+    let z = c.standing_for.result in
+    let i = c.first_in-i.result in
+    let w = c.requires.within_2 in
     let reps = w.1 in
     let inside = c.if-i-row.true in
     let test : Place g.row.P.Denot → Bool = λ y. eqb y.attractor a in
@@ -30,8 +30,8 @@ returns-then-i-row g c =
       seen = representatives_edited s row n xs _ _ w.0
           (between_set (attractor_room s.k) (firsts_at s) (s.k + 1 + i) xs z (omega arith) (omega arith))
           (cut-set (s.k + 1) n i xs z
-          ∙ ap (λ j. set (cut (s.k + 1) n xs) j z) c.first-in-i.ensures
-          ∙ change_set test change z (cut (s.k + 1) n xs) (λ y t. ap (λ m. standing_for m x) (eqb-true y.attractor a t) ∙ sym c.standing-for.ensures));
+          ∙ ap (λ j. set (cut (s.k + 1) n xs) j z) c.first_in-i.ensures
+          ∙ change_set test change z (cut (s.k + 1) n xs) (λ y t. ap (λ m. standing_for m x) (eqb-true y.attractor a t) ∙ sym c.standing_for.ensures));
       within = w;
       radius = refl;
     }
@@ -44,11 +44,11 @@ returns-else-i-row g c =
     let xs = c.args.part.now in
     let x = c.args.place in
     let a = c.args.attractor in
-    let w = c.requires.0 in
+    let w = c.requires.within_2 in
     let reps = w.1 in
-    let size = c.requires.1 in
+    let size = c.requires.part_len in
     let past = c.if-i-row.false in
-    let is = c.first-in-i.ensures in
+    let is = c.first_in-i.ensures in
     let test : Place g.row.P.Denot → Bool = λ y. eqb y.attractor a in
     let change : Place g.row.P.Denot → Place g.row.P.Denot = λ y. standing_for y.attractor x in
     let long : length (cut (s.k + 1) n xs) ≡ n = length_cut (s.k + 1) n xs (omega arith) in

@@ -1,4 +1,4 @@
-use Rattle.std.proofs.Common.{◌≡◌, ◌*◌, ◌<◌, ◌≤◌, Bool, leb, length, get_or, sym, ap, ◌∙◌, arith}
+use Rattle.std.proofs.Common.{◌≡◌, ◌*◌, Bool, length, get_or, sym, ap, ◌∙◌, arith}
 use Rattle.std.proofs.lemmas.List.{get_or-take}
 use Rattle.packed.specs.Lists.{cut, first_at}
 use Rattle.packed.proofs.Packing.{length_cut}
@@ -16,15 +16,15 @@ returns-then-i-row g c =
     let x = c.args.place in
     let xs = c.args.part.now in
     let n = row.attractors in
-    let i = c.first-in-i.result in
+    let i = c.first_in-i.result in
     let v = c.index-part-i.result in
-    let w = c.requires.0 in
+    let w = c.requires.within_2 in
     let a = w.0 in
-    let size = c.requires.1 in
+    let size = c.requires.part_len in
     let inside = c.if-i-row.true in
     let test : Place g.row.P.Denot → Bool = λ y. within (g.T.Tape.dist c.args.tape.now) (2 * row.radius) y x in
     let long : length (cut 0 n xs) ≡ n = length_cut 0 n xs (omega arith) in
-    let first : i ≡ first_at test (cut 0 n xs) = c.first-in-i.ensures in
+    let first : i ≡ first_at test (cut 0 n xs) = c.first_in-i.ensures in
     let here : v ≡ get_or (cut 0 n xs) (first_at test (cut 0 n xs)) v =
     c.index-part-i.is ∙ sym (get_or-take n xs i v inside) ∙ ap (λ j. get_or (cut 0 n xs) j v) first in
     let taken : seen_row s c.attract.new.row c.attract.new.part ≡ takes x (get_or xs i v).arrival (seen_row s row xs) = c.attract.ensures.seen in
@@ -45,13 +45,13 @@ returns-else-i-row g c =
     let x = c.args.place in
     let xs = c.args.part.now in
     let n = row.attractors in
-    let w = c.requires.0 in
+    let w = c.requires.within_2 in
     let a = w.0 in
-    let size = c.requires.1 in
+    let size = c.requires.part_len in
     let past = c.if-i-row.false in
     let test : Place g.row.P.Denot → Bool = λ y. within (g.T.Tape.dist c.args.tape.now) (2 * row.radius) y x in
     let long : length (cut 0 n xs) ≡ n = length_cut 0 n xs (omega arith) in
-    let first : c.first-in-i.result ≡ first_at test (cut 0 n xs) = c.first-in-i.ensures in
+    let first : c.first_in-i.result ≡ first_at test (cut 0 n xs) = c.first_in-i.ensures in
     let missing = first_missing test (cut 0 n xs) (omega arith) in
     let is = ap (settle_by s.k x (seen_row s row xs)) (sym missing) in
     let same = ap (λ r. length r.representatives) is in

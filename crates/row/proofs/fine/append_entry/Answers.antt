@@ -15,9 +15,9 @@ returns g c =
     let a = firsts_at s in
     let b = latests_at s in
     let ys = set xs (a + n) x in
-    let w = c.requires.0 in
-    let size = c.requires.1 in
-    let room = c.requires.2 in
+    let w = c.requires.within_2 in
+    let size = c.requires.part_len in
+    let room = c.requires.entries_lt_limit in
     let end = b + n + 1 in
     record {
       seen = fine_edited s row _ row.lost end xs _ _ w.0 w.1

@@ -1,8 +1,7 @@
 use Rattle.std.proofs.Common.{◌≡◌, ◌+◌, length, get_or, sym, refl, ap, ◌∙◌, arith}
 use Rattle.packed.specs.Lists.{Between, cut}
-use Rattle.packed.proofs.Betweens.{between_same, between_then, between_wider}
+use Rattle.packed.proofs.Betweens.{between_then, between_wider}
 use Rattle.packed.proofs.Packing.{length_cut}
-use Rattle.rules.specs.Steps.{make_room}
 use Rattle.row.specs.Edits.{with_fine}
 use Rattle.row.specs.Seen.{entries, firsts_at, latests_at, seen_row}
 use Rattle.row.proofs.Edited.{fine_edited}
@@ -20,13 +19,13 @@ returns-then-row-settings g c =
     let zs = c.remove-row.new.part in
     let a = firsts_at s in
     let b = latests_at s in
-    let i = c.least-in-i.result in
+    let i = c.least_in-i.result in
     let u = c.index-part-latests.result in
-    let w = c.requires.0 in
-    let size = c.requires.1 in
+    let w = c.requires.within_2 in
+    let size = c.requires.part_len in
     let full = c.if-row-settings.true in
     let fewer = c.remove-row.ensures.fewer in
-    let inside = c.least-in-i.ensures.inside in
+    let inside = c.least_in-i.ensures.inside in
     let end = b + n in
     let one : Between a end xs ys = between_wider a (a + n) a end xs ys (omega arith) (omega arith) c.remove-left.ensures.between in
     let two : Between a end ys zs = between_wider b end a end ys zs (omega arith) (omega arith) c.remove-row.ensures.between in
@@ -36,7 +35,7 @@ returns-then-row-settings g c =
     let la : length (cut a n xs) ≡ n = length_cut a n xs (omega arith) in
     let lb : length (cut b n xs) ≡ n = length_cut b n xs (omega arith) in
     let here : u ≡ get_or (cut b n xs) i u = c.index-part-latests.is ∙ sym (get_or-cut b n i xs u inside) in
-    let made = room_made s.limit (cut a n xs) (cut b n xs) i row.lost u (omega arith) (omega arith) c.least-in-i.ensures.least here in
+    let made = room_made s.limit (cut a n xs) (cut b n xs) i row.lost u (omega arith) (omega arith) c.least_in-i.ensures.least here in
     record {
       seen =
           fine_edited s row c.remove-row.result _ end xs zs _ w.0 w.1 (between_then a end xs ys zs one two) left
@@ -54,9 +53,9 @@ returns-else-row-settings g c =
     let xs = c.args.part.now in
     let a = firsts_at s in
     let b = latests_at s in
-    let w = c.requires.0 in
+    let w = c.requires.within_2 in
     let few = w.2 in
-    let size = c.requires.1 in
+    let size = c.requires.part_len in
     let not_full = c.if-row-settings.false in
     let la : length (cut a n xs) ≡ n = length_cut a n xs (omega arith) in
     let lb : length (cut b n xs) ≡ n = length_cut b n xs (omega arith) in

@@ -1,4 +1,4 @@
-use Rattle.std.proofs.Common.{◌≡◌, ◌+◌, ◌/◌, ◌≤◌, Bool, [], ◌∷◌, ◌++◌, sym, refl, ap, ◌∙◌, arith}
+use Rattle.std.proofs.Common.{◌≡◌, ◌+◌, ◌/◌, Bool, [], ◌∷◌, ◌++◌, sym, refl, ap, ◌∙◌, arith}
 use Rattle.packed.specs.Lists.{cut, first_at}
 use Rattle.packed.proofs.Betweens.{between_set}
 use Rattle.rules.specs.Steps.{refine_by, within}
@@ -18,15 +18,15 @@ returns-then-i-row g c =
     let x = c.args.place in
     let a = firsts_at s in
     let b = latests_at s in
-    let i = c.first-in-i.result in
-    let w = c.requires.0 in
+    let i = c.first_in-i.result in
+    let w = c.requires.within_2 in
     let few = w.2 in
-    let size = c.requires.1 in
+    let size = c.requires.part_len in
     let inside = c.if-i-row.true in
     let dist = g.T.Tape.dist c.args.tape.now in
     let gap = row.radius / s.fineness in
     let test : Place g.row.P.Denot → Bool = λ y. within dist gap y x in
-    let first : i ≡ first_at test (cut a n xs) = c.first-in-i.ensures in
+    let first : i ≡ first_at test (cut a n xs) = c.first_in-i.ensures in
     let found = entry_found test a b n i xs x (omega arith) (omega arith) inside first in
     let end = b + n in
     record {
@@ -47,22 +47,22 @@ returns-else-i-row g c =
     let x = c.args.place in
     let a = firsts_at s in
     let b = latests_at s in
-    let w = c.requires.0 in
+    let w = c.requires.within_2 in
     let few = w.2 in
-    let size = c.requires.1 in
+    let size = c.requires.part_len in
     let past = c.if-i-row.false in
     let dist = g.T.Tape.dist c.args.tape.now in
     let gap = row.radius / s.fineness in
     let test : Place g.row.P.Denot → Bool = λ y. within dist gap y x in
-    let first : c.first-in-i.result ≡ first_at test (cut a n xs) = c.first-in-i.ensures in
+    let first : c.first_in-i.result ≡ first_at test (cut a n xs) = c.first_in-i.ensures in
     let missing = entry_missing test a b n xs (omega arith) (omega arith) (omega arith) in
     let r0 = seen_row s row xs in
-    let r1 = seen_row s c.make-room.new.row c.make-room.new.part in
+    let r1 = seen_row s c.make_room.new.row c.make_room.new.part in
     record {
       seen =
-          c.append-entry.ensures.seen
-          ∙ ap (λ r. with_fine (r.fine ++ (record { first = x; latest = x } ∷ [])) r.lost r) c.make-room.ensures.seen
+          c.append_entry.ensures.seen
+          ∙ ap (λ r. with_fine (r.fine ++ (record { first = x; latest = x } ∷ [])) r.lost r) c.make_room.ensures.seen
           ∙ ap (refine_by dist s.limit gap x r0) (sym missing);
-      within = c.append-entry.ensures.within;
-      radius = c.append-entry.ensures.radius ∙ c.make-room.ensures.radius;
+      within = c.append_entry.ensures.within;
+      radius = c.append_entry.ensures.radius ∙ c.make_room.ensures.radius;
     }

@@ -1,4 +1,4 @@
-use Rattle.std.proofs.Common.{◌≡◌, length, sym, ap, ◌∙◌, arith}
+use Rattle.std.proofs.Common.{◌≡◌, length, ap, ◌∙◌, arith}
 use Rattle.rules.specs.Steps.{enter, expire, refine, settle}
 use Rattle.row.specs.Seen.{judged, seen_row}
 use Rattle.row.proofs.Steps.{refine-representatives}

@@ -12,22 +12,22 @@ pub loop-i-preserved : goal.loop-i-preserved
 loop-i-preserved c =
     let zs = c.loop-i.offsets in
     let i = c.loop-i.i in
-    let z = c.in-ok-offset.offset in
+    let z = c.in_ok-offset.offset in
     let fits : SFits w32 z = search rules in
     let same : to_z w32 (of_z w32 z) ≡ z = to_z-of_z w32 z fits in
     let here : i < length zs = omega arith in
-    let read : offset_at c.args.text.now c.loop-i.at ≡ Ok (to_z w32 (of_z w32 z), c.in-ok-offset.end)
-    = sym c.offset-at.ensures.is ∙ c.in-ok-offset.was ∙ ap (λ x. Ok (x, c.in-ok-offset.end)) (sym same) in (
-      offsets_more i c.args.text.now c.args.at c.loop-i.at c.in-ok-offset.end zs (to_z w32 (of_z w32 z)) here c.loop-i.invariant.0 read,
+    let read : offset_at c.args.text.now c.loop-i.at ≡ Ok (to_z w32 (of_z w32 z), c.in_ok-offset.end)
+    = sym c.offset_at.ensures.is ∙ c.in_ok-offset.was ∙ ap (λ x. Ok (x, c.in_ok-offset.end)) (sym same) in (
+      offsets_more i c.args.text.now c.args.at c.loop-i.at c.in_ok-offset.end zs (to_z w32 (of_z w32 z)) here c.loop-i.invariant.0 read,
       length-set zs i (to_z w32 (of_z w32 z)) ∙ c.loop-i.invariant.1,
-      c.in-ok-offset.ensures.inside,
+      c.in_ok-offset.ensures.inside,
     )
 
-pub returns-in-err-offset : goal.returns-in-err-offset
-returns-in-err-offset c =
-    let e = c.in-err-offset.field-0.0 in
-    let out : c.from-residual.result ≡ Err e = search rules in
-    let read : offset_at c.args.text.now c.loop-i.at ≡ Err e = sym c.offset-at.ensures.is ∙ c.in-err-offset.was in
+pub returns-in_err-offset : goal.returns-in_err-offset
+returns-in_err-offset c =
+    let e = c.in_err-offset.field-0.0 in
+    let out : c.from_residual.result ≡ Err e = search rules in
+    let read : offset_at c.args.text.now c.loop-i.at ≡ Err e = sym c.offset_at.ensures.is ∙ c.in_err-offset.was in
     record {
       is = out ∙ sym (offsets_fail c.loop-i.i c.args.text.now c.args.at c.loop-i.at (take c.loop-i.i c.loop-i.offsets) e
           c.loop-i-test.true c.loop-i.invariant.0 read);

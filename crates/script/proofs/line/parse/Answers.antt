@@ -8,5 +8,5 @@ use Rattle.script.proofs.line.parse.Goals as goal
 pub returns : goal.returns
 returns c =
     let line = c.args.line.now in
-    let cut : c.run-end-code.result - 0 ≡ prefix_len (within Code) line = omega (arith, c.run-end-code.ensures.is) in
-    c.parse-code.ensures ∙ ap (λ n. code_of (take n line)) cut
+    let cut : c.run_end-code.result - 0 ≡ prefix_len (within Code) line = omega (arith, c.run_end-code.ensures.is) in
+    c.parse_code.ensures ∙ ap (λ n. code_of (take n line)) cut

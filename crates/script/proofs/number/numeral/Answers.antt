@@ -16,34 +16,34 @@ returns-then-digit g c = record {
   bound = tt;
 }
 
-pub returns-in-err-checked-mul : goal.returns-in-err-checked-mul
-returns-in-err-checked-mul g c =
-    let over = c.in-err-checked-mul.ensures in
+pub returns-in_err-checked_mul : goal.returns-in_err-checked_mul
+returns-in_err-checked_mul g c =
+    let over = c.in_err-checked_mul.ensures in
     let fits = c.ranges.most.fits in
     let stops = counted_stops g.row.BASE c.args.most c.loop-byte.value c.args.digits.now c.loop-byte.byte-index c.loop-byte-test.true
     (λ h l. over (omega arith)) in
     record {
-      is = c.from-residual.ensures ∙ sym stops ∙ c.loop-byte.invariant.0;
-      bound = rw c.from-residual.ensures tt;
+      is = c.from_residual.ensures ∙ sym stops ∙ c.loop-byte.invariant.0;
+      bound = rw c.from_residual.ensures tt;
     }
 
-pub returns-in-err-value : goal.returns-in-err-value
-returns-in-err-value g c =
-    let over = c.in-err-value.ensures in
-    let product = c.in-ok-checked-mul.ensures.1 in
+pub returns-in_err-value : goal.returns-in_err-value
+returns-in_err-value g c =
+    let over = c.in_err-value.ensures in
+    let product = c.in_ok-checked_mul.ensures.1 in
     let digit = c.digit-digit.ensures in
     let fits = c.ranges.most.fits in
     let stops = counted_stops g.row.BASE c.args.most c.loop-byte.value c.args.digits.now c.loop-byte.byte-index c.loop-byte-test.true
     (λ h l. over (omega arith)) in
     record {
-      is = c.from-residual-in-err-value.ensures ∙ sym stops ∙ c.loop-byte.invariant.0;
-      bound = rw c.from-residual-in-err-value.ensures tt;
+      is = c.from_residual-in_err-value.ensures ∙ sym stops ∙ c.loop-byte.invariant.0;
+      bound = rw c.from_residual-in_err-value.ensures tt;
     }
 
 pub returns-then-value-most : goal.returns-then-value-most
 returns-then-value-most g c =
-    let product = c.in-ok-checked-mul.ensures.1 in
-    let sum = c.in-ok-value.ensures.1 in
+    let product = c.in_ok-checked_mul.ensures.1 in
+    let sum = c.in_ok-value.ensures.1 in
     let digit = c.digit-digit.ensures in
     record {
       is = sym (counted_stops g.row.BASE c.args.most c.loop-byte.value c.args.digits.now c.loop-byte.byte-index c.loop-byte-test.true
@@ -54,12 +54,12 @@ returns-then-value-most g c =
 
 pub loop-byte-preserved : goal.loop-byte-preserved
 loop-byte-preserved g c =
-    let product = c.in-ok-checked-mul.ensures.1 in
-    let sum = c.in-ok-value.ensures.1 in
+    let product = c.in_ok-checked_mul.ensures.1 in
+    let sum = c.in_ok-value.ensures.1 in
     let digit = c.digit-digit.ensures in
     let bs = c.args.digits.now in
     let d = digit_of (get_or bs c.loop-byte.byte-index 0) in
-    let value : c.in-ok-value.value ≡ c.loop-byte.value * g.row.BASE + d = omega arith in (
+    let value : c.in_ok-value.value ≡ c.loop-byte.value * g.row.BASE + d = omega arith in (
       ap (λ v. counted g.row.BASE c.args.most v (drop (c.loop-byte.byte-index + 1) bs)) value
           ∙ sym (counted_more g.row.BASE c.args.most c.loop-byte.value bs c.loop-byte.byte-index c.loop-byte-test.true (omega arith) (omega arith))
           ∙ c.loop-byte.invariant.0,

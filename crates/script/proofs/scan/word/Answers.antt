@@ -8,7 +8,7 @@ pub returns : goal.returns
 unfolding end_at
 returns c =
     let xs = c.args.text.now in
-    let start = c.word-start-start.ensures.is in
-    let end : c.run-end-end.result ≡ end_at xs c.args.at
-    = c.run-end-end.ensures.is ∙ ap (λ i. i + prefix_len (within Word) (drop i xs)) start in
-    record { is = ap (λ i. (i, c.run-end-end.result)) start ∙ ap (λ i. (start_at xs c.args.at, i)) end; inside = (omega (arith, c.run-end-end.ensures.is), c.run-end-end.ensures.inside) }
+    let start = c.word_start-start.ensures.is in
+    let end : c.run_end-end.result ≡ end_at xs c.args.at
+    = c.run_end-end.ensures.is ∙ ap (λ i. i + prefix_len (within Word) (drop i xs)) start in
+    record { is = ap (λ i. (i, c.run_end-end.result)) start ∙ ap (λ i. (start_at xs c.args.at, i)) end; inside = (omega (arith, c.run_end-end.ensures.is), c.run_end-end.ensures.inside) }

@@ -6,5 +6,5 @@ pub returns : goal.returns
 returns g c t e1 e2 =
     let some = c.if-list-eq0.false in
     among_chosen (g.T.Tape.dist c.args.tape.now) c.args.settings t c.args.grain c.args.slack c.args.floor c.args.list.now
-    c.args.answers.now c.choose-centres-count.new.answers c.args.work.now c.choose-centres-count.new.work
-    c.choose-centres-count.result.0 c.choose-centres-count.result.1 (omega arith) c.choose-centres-count.ensures.chosen e1 e2
+    c.args.answers.now c.choose_centres-count.new.answers c.args.work.now c.choose_centres-count.new.work
+    c.choose_centres-count.result.0 c.choose_centres-count.result.1 (omega arith) c.choose_centres-count.ensures.chosen e1 e2

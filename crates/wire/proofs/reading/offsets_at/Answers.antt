@@ -9,12 +9,12 @@ pub loop-i-preserved : goal.loop-i-preserved
 loop-i-preserved c =
     let zs = c.loop-i.offsets in
     let i = c.loop-i.i in
-    let z = to_z w32 (of_z w32 c.i32-at.result) in
-    let fits : SFits w32 c.i32-at.result = search rules in
-    let same : z ≡ c.i32-at.result = to_z-of_z w32 c.i32-at.result fits in
+    let z = to_z w32 (of_z w32 c.i32_at.result) in
+    let fits : SFits w32 c.i32_at.result = search rules in
+    let same : z ≡ c.i32_at.result = to_z-of_z w32 c.i32_at.result fits in
     let here : i < length zs = omega arith in (
       length-set zs i z ∙ c.loop-i.invariant.0,
-      read_more c.args.bytes.now c.args.at i zs z here c.loop-i.invariant.1 (c.i32-at.ensures ∙ ap be32z (sym same)),
+      read_more c.args.bytes.now c.args.at i zs z here c.loop-i.invariant.1 (c.i32_at.ensures ∙ ap be32z (sym same)),
     )
 
 pub returns : goal.returns

@@ -4,5 +4,5 @@ use Rattle.wire.proofs.reading.u64_at.Goals as goal
 
 pub returns : goal.returns
 returns c =
-    long_stands c.args.bytes.now c.args.at c.u32-at.result c.u32-at-2.result (c.from.result * 4294967296 + c.from-2.result)
-    c.u32-at.ensures c.u32-at-2.ensures c.u32-at-2.type-inv (omega arith)
+    long_stands c.args.bytes.now c.args.at c.u32_at.result c.u32_at-2.result (c.from.result * 4294967296 + c.from-2.result)
+    c.u32_at.ensures c.u32_at-2.ensures c.u32_at-2.type_inv (omega arith)

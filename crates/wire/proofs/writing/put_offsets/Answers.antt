@@ -17,12 +17,12 @@ loop-i-preserved c =
     let bs = take at c.args.out.now in
     let here : i < length zs = omega arith in
     let fits : SFits w32 (get_or zs i (pos 0)) = search rules in
-    let one : take (at + 4 * i + 4) c.put-i32.new.out ≡ take (at + 4 * i) c.loop-i.out ++ be32z (get_or zs i (pos 0))
-    = simp (to_z-of_z w32 (get_or zs i (pos 0)) fits) at c.put-i32.ensures.front in
-    let step : take (at + 4 * (i + 1)) c.put-i32.new.out ≡ (bs ++ be32zs (take i zs)) ++ be32z (get_or zs i (pos 0))
-    = ap (λ n. take n c.put-i32.new.out) (omega arith) ∙ one ∙ ap (λ xs. xs ++ be32z (get_or zs i (pos 0))) c.loop-i.invariant.0 in (
-      written_more bs (take (at + 4 * (i + 1)) c.put-i32.new.out) zs i here step,
-      λ k h. c.put-i32.ensures.back k (omega arith) ∙ c.loop-i.invariant.1 k (omega arith),
+    let one : take (at + 4 * i + 4) c.put_i32.new.out ≡ take (at + 4 * i) c.loop-i.out ++ be32z (get_or zs i (pos 0))
+    = simp (to_z-of_z w32 (get_or zs i (pos 0)) fits) at c.put_i32.ensures.front in
+    let step : take (at + 4 * (i + 1)) c.put_i32.new.out ≡ (bs ++ be32zs (take i zs)) ++ be32z (get_or zs i (pos 0))
+    = ap (λ n. take n c.put_i32.new.out) (omega arith) ∙ one ∙ ap (λ xs. xs ++ be32z (get_or zs i (pos 0))) c.loop-i.invariant.0 in (
+      written_more bs (take (at + 4 * (i + 1)) c.put_i32.new.out) zs i here step,
+      λ k h. c.put_i32.ensures.back k (omega arith) ∙ c.loop-i.invariant.1 k (omega arith),
     )
 
 pub returns : goal.returns

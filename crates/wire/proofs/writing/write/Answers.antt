@@ -11,6 +11,6 @@ returns c =
     let enough : size_of command ≤ length was = omega arith in
     record {
       answer = ap Ok c.size-size.ensures ∙ ap (λ b. if_room b (size_of command)) (sym (room command was enough));
-      list = fronted command was c.put-command.new.out enough c.put-command.ensures.front c.put-command.ensures.back;
+      list = fronted command was c.put_command.new.out enough c.put_command.ensures.front c.put_command.ensures.back;
       inside = omega arith;
     }

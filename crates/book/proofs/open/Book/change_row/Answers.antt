@@ -1,16 +1,15 @@
-use Rattle.std.proofs.Common.{◌≡◌, ◌+◌, ◌*◌, ◌<◌, ◌≤◌, length, get_or, take, drop, set, sym, refl, ap, ◌∙◌, arith, length-set}
-use Rattle.std.proofs.lemmas.List.{drop-set-lt, get_or-take, length-take-le}
+use Rattle.std.proofs.Common.{◌≡◌, ◌+◌, ◌*◌, ◌≤◌, length, take, set, refl, ap, ◌∙◌, arith, length-set}
+use Rattle.std.proofs.lemmas.List.{drop-set-lt, length-take-le}
 use Rattle.packed.proofs.Betweens.{between_wider}
 use Rattle.picking.proofs.Shelves.{part_room}
-use Rattle.picking.specs.Trials.{no_row}
-use Rattle.row.specs.Seen.{judged, seen_row, seen_rows}
+use Rattle.row.specs.Seen.{judged, seen_rows}
 use Rattle.rules.specs.Limits.{part_size}
 use Rattle.book.proofs.Parts.{seen-set}
 use Rattle.book.proofs.Steps.{bounded_row, take_row, within-row}
 use Rattle.book.proofs.open.Book.change_row.Goals as goal
 
-pub change-at-requires : goal.change-at-requires
-change-at-requires g c =
+pub change_at-requires : goal.change_at-requires
+change_at-requires g c =
     let b = c.args.self.now in
     let there = c.requires.there in
     let few = b.few in
@@ -20,26 +19,21 @@ change-at-requires g c =
       bounded = b.bounded c.args.j (omega arith);
     }
 
-pub invariant-of-self : goal.invariant-of-self
-invariant-of-self g c =
+pub invariant_of-self : goal.invariant_of-self
+invariant_of-self g c =
     let b = c.args.self.now in
     let there = c.requires.there in
     let few = b.few in
     let long = b.long in
     let j = c.args.j in
-    let row = c.change-at.new.row in (
-      b.few,
-      (
-        length-set b.rows j row ∙ long,
-        (
-          within-row b.settings b.rows j row (omega arith) c.change-at.ensures.kept b.within,
-          (
-            bounded_row b.rows j row (omega arith) c.change-at.ensures.radius b.bounded,
-            (b.posted, tt),
-          ),
-        ),
-      ),
-    )
+    let row = c.change_at.new.row in
+    record {
+      few = b.few;
+      long = length-set b.rows j row ∙ long;
+      within = within-row b.settings b.rows j row (omega arith) c.change_at.ensures.kept b.within;
+      bounded = bounded_row b.rows j row (omega arith) c.change_at.ensures.radius b.bounded;
+      posted = b.posted;
+    }
 
 pub returns : goal.returns
 returns g c =
@@ -49,8 +43,8 @@ returns g c =
     let j = c.args.j in
     let w = part_size (judged s) in
     let xs = c.args.places.now in
-    let ys = c.change-at.new.places in
-    let row = c.change-at.new.row in
+    let ys = c.change_at.new.places in
+    let row = c.change_at.new.row in
     let there = c.requires.there in
     let few = b.few in
     let long = b.long in
@@ -60,12 +54,12 @@ returns g c =
     record {
       seen = λ fits.
           ap (λ rs. seen_rows s rs ys) (take_row n j b.rows row)
-          ∙ seen-set s (take n b.rows) j xs ys row (omega arith) c.change-at.ensures.between
-          ∙ ap (set (seen_rows s (take n b.rows) xs) j) (c.change-at.ensures.seen fits);
+          ∙ seen-set s (take n b.rows) j xs ys row (omega arith) c.change_at.ensures.between
+          ∙ ap (set (seen_rows s (take n b.rows) xs) j) (c.change_at.ensures.seen fits);
       settings = refl;
       count = refl;
       posts = refl;
       day = refl;
       rest = drop-set-lt n b.rows j row there;
-      surplus = (between_wider (j * w) (j * w + w) 0 (n * w) xs ys (omega arith) end c.change-at.ensures.between).after;
+      surplus = (between_wider (j * w) (j * w + w) 0 (n * w) xs ys (omega arith) end c.change_at.ensures.between).after;
     }

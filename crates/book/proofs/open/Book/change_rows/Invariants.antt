@@ -1,4 +1,4 @@
-use Rattle.std.proofs.Common.{◌≡◌, ◌*◌, map, length, take, drop}
+use Rattle.std.proofs.Common.{◌≡◌, ◌*◌, map, take, drop}
 use Rattle.row.specs.Seen.{judged, seen_rows}
 use Rattle.rules.specs.Limits.{part_size}
 use Rattle.rules.specs.Promises.{RowFits}

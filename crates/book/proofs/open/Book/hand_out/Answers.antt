@@ -1,31 +1,31 @@
-use Rattle.std.proofs.Common.{◌≡◌, take, Some, None, sym, refl, ◌∙◌, arith}
+use Rattle.std.proofs.Common.{take, Some, None, sym, ◌∙◌, arith}
 use Rattle.rules.specs.Runs as runs
 use Rattle.book.specs.Seen.{seen}
 use Rattle.book.proofs.Performed.{rows_seen, served}
 use Rattle.book.proofs.Sought.{handed, live_long, live_within, seek_short}
 use Rattle.book.proofs.open.Book.hand_out.Goals as goal
 
-pub returns-then-is-short : goal.returns-then-is-short
-returns-then-is-short g c =
+pub returns-then-is_short : goal.returns-then-is_short
+returns-then-is_short g c =
     let xs = c.args.shelf.now.places.now in
     let b = seen c.args.self.now xs in
-    let rule = seek_short b _ (c.if-is-short.ensures xs (sym c.len.ensures)) in
+    let rule = seek_short b _ (c.if-is_short.ensures xs (sym c.len.ensures)) in
     record {
       rule = rule;
       run = λ dist counts es reached. runs.handed_out c.args.at reached rule;
       room = λ dist metric counts law es reached. (served dist metric counts law _ es b (runs.handed_out c.args.at reached rule)).0;
     }
 
-pub piece-at-requires : goal.piece-at-requires
-piece-at-requires g c =
+pub piece_at-requires : goal.piece_at-requires
+piece_at-requires g c =
     let b = c.args.self.now in
     let xs = c.args.shelf.now.places.now in
     let long = b.long in
     let few = b.few in
-    let live = c.live-rows.result.now in
+    let live = c.live_rows.result.now in
     record {
-      within = live_within b.settings b.count b.rows live few c.live-rows.ensures b.within (omega arith);
-      long = live_long b.settings b.count b.rows live xs b.posts b.day c.live-rows.ensures (omega arith) (c.if-is-short.ensures xs (sym c.len.ensures))
+      within = live_within b.settings b.count b.rows live few c.live_rows.ensures b.within (omega arith);
+      long = live_long b.settings b.count b.rows live xs b.posts b.day c.live_rows.ensures (omega arith) (c.if-is_short.ensures xs (sym c.len.ensures))
           (rows_seen b.settings b.count b.rows xs (omega arith));
     }
 
@@ -33,8 +33,8 @@ pub returns-in-Some : goal.returns-in-Some
 returns-in-Some g c =
     let b0 = c.args.self.now in
     let xs = c.args.shelf.now.places.now in
-    let rule = handed b0.settings c.live-rows.result.now (take b0.count b0.rows) b0.posts b0.day xs c.live-rows.ensures (c.if-is-short.ensures xs (sym c.len.ensures))
-    c.args.at (Some c.in-Some.piece) (sym c.in-Some.is ∙ c.piece-at.ensures) in
+    let rule = handed b0.settings c.live_rows.result.now (take b0.count b0.rows) b0.posts b0.day xs c.live_rows.ensures (c.if-is_short.ensures xs (sym c.len.ensures))
+    c.args.at (Some c.in-Some.piece) (sym c.in-Some.is ∙ c.piece_at.ensures) in
     record {
       rule = rule;
       run = λ dist counts es reached. runs.handed_out c.args.at reached rule;
@@ -45,8 +45,8 @@ pub returns-in-None : goal.returns-in-None
 returns-in-None g c =
     let b0 = c.args.self.now in
     let xs = c.args.shelf.now.places.now in
-    let rule = handed b0.settings c.live-rows.result.now (take b0.count b0.rows) b0.posts b0.day xs c.live-rows.ensures (c.if-is-short.ensures xs (sym c.len.ensures))
-    c.args.at None (sym c.in-None.is ∙ c.piece-at.ensures) in
+    let rule = handed b0.settings c.live_rows.result.now (take b0.count b0.rows) b0.posts b0.day xs c.live_rows.ensures (c.if-is_short.ensures xs (sym c.len.ensures))
+    c.args.at None (sym c.in-None.is ∙ c.piece_at.ensures) in
     record {
       rule = rule;
       run = λ dist counts es reached. runs.handed_out c.args.at reached rule;

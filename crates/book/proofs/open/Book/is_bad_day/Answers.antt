@@ -1,4 +1,4 @@
-use Rattle.std.proofs.Common.{◌≡◌, ◌||◌, ltb, sym, ap, ◌∙◌}
+use Rattle.std.proofs.Common.{◌||◌, ltb, sym, ap, ◌∙◌}
 use Rattle.std.proofs.lemmas.Bool.{le-ltb, lt-ltb}
 use Rattle.book.proofs.open.Book.is_bad_day.Goals as goal
 

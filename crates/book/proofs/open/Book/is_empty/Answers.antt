@@ -1,6 +1,4 @@
-use Rattle.std.proofs.Common.{◌≡◌, ◌≤◌, length, take, sym, refl, ap, ◌∙◌, subst, arith}
-use Rattle.row.specs.Seen.{judged}
-use Rattle.rules.specs.Limits.{part_size}
+use Rattle.std.proofs.Common.{sym, arith}
 use Rattle.book.proofs.Answering.{first_empty}
 use Rattle.book.proofs.Performed.{rows_seen}
 use Rattle.book.proofs.Sought.{not_short}

@@ -1,4 +1,4 @@
-use Rattle.std.proofs.Common.{◌≡◌, ℕ, ◌*◌, ltb, length, take, sym, ap, ◌∙◌, arith}
+use Rattle.std.proofs.Common.{◌*◌, ltb, length, take, sym, ap, ◌∙◌, arith}
 use Rattle.std.proofs.lemmas.List.{length-take-le}
 use Rattle.picking.proofs.Shelves.{length_seen}
 use Rattle.row.specs.Seen.{judged}

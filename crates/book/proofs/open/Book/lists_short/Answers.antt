@@ -1,4 +1,4 @@
-use Rattle.std.proofs.Common.{◌≡◌, ◌||◌, ltb, sym, ap, ◌∙◌}
+use Rattle.std.proofs.Common.{◌||◌, ltb, sym, ap, ◌∙◌}
 use Rattle.std.proofs.lemmas.Bool.{lt-ltb}
 use Rattle.row.specs.Seen.{judged}
 use Rattle.rules.specs.Limits.{work_needed}

@@ -18,7 +18,7 @@ returns-in-Some g c =
     let ws1 = c.args.work.now in
     let dist = g.T.Tape.dist c.args.tape.now in
     let counts = g.W.Term.counts c.args.term.now in
-    let e : why_not_pick b as1 ws1 ≡ Some c.in-Some.why = sym (c.why-not-pick.ensures xs as1 ws1 (sym c.len.ensures) refl refl) ∙ c.in-Some.is in
+    let e : why_not_pick b as1 ws1 ≡ Some c.in-Some.why = sym (c.why_not_pick.ensures xs as1 ws1 (sym c.len.ensures) refl refl) ∙ c.in-Some.is in
     let rule = pick-refused dist counts b as1 ws1 c.in-Some.why e in
     let metric : Metric dist = record {
       range = g.met.T.Tape.range c.args.tape.now;
@@ -37,8 +37,8 @@ returns-in-Some g c =
       holds = λ es reached. pick-holds dist metric counts law es b as1 ws1 _ as1 (picked as1 ws1 reached rule);
     }
 
-pub first-passing-requires : goal.first-passing-requires
-first-passing-requires g c =
+pub first_passing-requires : goal.first_passing-requires
+first_passing-requires g c =
     let xs = c.args.shelf.now.places.now in
     let b0 = c.args.self.now in
     let b = seen b0 xs in
@@ -46,18 +46,18 @@ first-passing-requires g c =
     let ws1 = c.args.work.now in
     let few = b0.few in
     let size = b0.long in
-    let live = c.live-rows-rows.result.now in
-    let e : why_not_pick b as1 ws1 ≡ None = sym (c.why-not-pick.ensures xs as1 ws1 (sym c.len.ensures) refl refl) ∙ c.in-default.is in
+    let live = c.live_rows-rows.result.now in
+    let e : why_not_pick b as1 ws1 ≡ None = sym (c.why_not_pick.ensures xs as1 ws1 (sym c.len.ensures) refl refl) ∙ c.in_default.is in
     let room = pick-room b as1 ws1 e in
     record {
-      within = live_within b0.settings b0.count b0.rows live few c.live-rows-rows.ensures b0.within (omega arith);
-      radii = live_bounded b0.count b0.rows live few c.live-rows-rows.ensures b0.bounded (omega arith);
-      long = live_long b0.settings b0.count b0.rows live xs b0.posts b0.day c.live-rows-rows.ensures (omega arith) room.0
+      within = live_within b0.settings b0.count b0.rows live few c.live_rows-rows.ensures b0.within (omega arith);
+      radii = live_bounded b0.count b0.rows live few c.live_rows-rows.ensures b0.bounded (omega arith);
+      long = live_long b0.settings b0.count b0.rows live xs b0.posts b0.day c.live_rows-rows.ensures (omega arith) room.0
           (rows_seen b0.settings b0.count b0.rows xs (omega arith));
     }
 
-pub pick-at-requires : goal.pick-at-requires
-pick-at-requires g c =
+pub pick_at-requires : goal.pick_at-requires
+pick_at-requires g c =
     let xs = c.args.shelf.now.places.now in
     let b0 = c.args.self.now in
     let b = seen b0 xs in
@@ -65,16 +65,16 @@ pick-at-requires g c =
     let ws1 = c.args.work.now in
     let few = b0.few in
     let size = b0.long in
-    let live = c.live-rows-rows.result.now in
-    let j = c.in-Some-first-passing.j in
-    let e : why_not_pick b as1 ws1 ≡ None = sym (c.why-not-pick.ensures xs as1 ws1 (sym c.len.ensures) refl refl) ∙ c.in-default.is in
+    let live = c.live_rows-rows.result.now in
+    let j = c.in-Some-first_passing.j in
+    let e : why_not_pick b as1 ws1 ≡ None = sym (c.why_not_pick.ensures xs as1 ws1 (sym c.len.ensures) refl refl) ∙ c.in_default.is in
     let room = pick-room b as1 ws1 e in
-    let inside = c.in-Some-first-passing.ensures.inside in
+    let inside = c.in-Some-first_passing.ensures.inside in
     record {
       there = inside;
-      within = live_within b0.settings b0.count b0.rows live few c.live-rows-rows.ensures b0.within (omega arith) j inside;
-      bounded = live_bounded b0.count b0.rows live few c.live-rows-rows.ensures b0.bounded (omega arith) j inside;
-      long = live_long b0.settings b0.count b0.rows live xs b0.posts b0.day c.live-rows-rows.ensures (omega arith) room.0
+      within = live_within b0.settings b0.count b0.rows live few c.live_rows-rows.ensures b0.within (omega arith) j inside;
+      bounded = live_bounded b0.count b0.rows live few c.live_rows-rows.ensures b0.bounded (omega arith) j inside;
+      long = live_long b0.settings b0.count b0.rows live xs b0.posts b0.day c.live_rows-rows.ensures (omega arith) room.0
           (rows_seen b0.settings b0.count b0.rows xs (omega arith));
       answers = room.1;
       work = room.2;
@@ -89,9 +89,9 @@ returns-in-None g c =
     let ws1 = c.args.work.now in
     let dist = g.T.Tape.dist c.args.tape.now in
     let counts = g.W.Term.counts c.args.term.now in
-    let e : why_not_pick b as1 ws1 ≡ None = sym (c.why-not-pick.ensures xs as1 ws1 (sym c.len.ensures) refl refl) ∙ c.in-default.is in
-    let rule = pick_none dist counts b0.settings c.live-rows-rows.result.now (take b0.count b0.rows) b0.posts b0.day xs as1 ws1 c.live-rows-rows.ensures e
-    (sym c.in-None.is ∙ c.first-passing.ensures.first) in
+    let e : why_not_pick b as1 ws1 ≡ None = sym (c.why_not_pick.ensures xs as1 ws1 (sym c.len.ensures) refl refl) ∙ c.in_default.is in
+    let rule = pick_none dist counts b0.settings c.live_rows-rows.result.now (take b0.count b0.rows) b0.posts b0.day xs as1 ws1 c.live_rows-rows.ensures e
+    (sym c.in-None.is ∙ c.first_passing.ensures.first) in
     let metric : Metric dist = record {
       range = g.met.T.Tape.range c.args.tape.now;
       zero = g.met.T.Tape.zero c.args.tape.now;
@@ -109,8 +109,8 @@ returns-in-None g c =
       holds = λ es reached. pick-holds dist metric counts law es b as1 ws1 _ as1 (picked as1 ws1 reached rule);
     }
 
-pub returns-in-Some-first-passing : goal.returns-in-Some-first-passing
-returns-in-Some-first-passing g c =
+pub returns-in-Some-first_passing : goal.returns-in-Some-first_passing
+returns-in-Some-first_passing g c =
     let xs = c.args.shelf.now.places.now in
     let b0 = c.args.self.now in
     let b = seen b0 xs in
@@ -118,9 +118,9 @@ returns-in-Some-first-passing g c =
     let ws1 = c.args.work.now in
     let dist = g.T.Tape.dist c.args.tape.now in
     let counts = g.W.Term.counts c.args.term.now in
-    let e : why_not_pick b as1 ws1 ≡ None = sym (c.why-not-pick.ensures xs as1 ws1 (sym c.len.ensures) refl refl) ∙ c.in-default.is in
-    let rule = pick_made dist counts b0.settings c.live-rows-rows.result.now (take b0.count b0.rows) b0.posts b0.day xs as1 ws1 c.live-rows-rows.ensures e
-    c.in-Some-first-passing.j c.pick-at.result c.pick-at.new.answers c.pick-at.new.work (sym c.in-Some-first-passing.is ∙ c.first-passing.ensures.first) c.pick-at.ensures in
+    let e : why_not_pick b as1 ws1 ≡ None = sym (c.why_not_pick.ensures xs as1 ws1 (sym c.len.ensures) refl refl) ∙ c.in_default.is in
+    let rule = pick_made dist counts b0.settings c.live_rows-rows.result.now (take b0.count b0.rows) b0.posts b0.day xs as1 ws1 c.live_rows-rows.ensures e
+    c.in-Some-first_passing.j c.pick_at.result c.pick_at.new.answers c.pick_at.new.work (sym c.in-Some-first_passing.is ∙ c.first_passing.ensures.first) c.pick_at.ensures in
     let metric : Metric dist = record {
       range = g.met.T.Tape.range c.args.tape.now;
       zero = g.met.T.Tape.zero c.args.tape.now;
@@ -135,5 +135,5 @@ returns-in-Some-first-passing g c =
     record {
       rule = rule;
       run = λ es reached. picked as1 ws1 reached rule;
-      holds = λ es reached. pick-holds dist metric counts law es b as1 ws1 _ c.pick-at.new.answers (picked as1 ws1 reached rule);
+      holds = λ es reached. pick-holds dist metric counts law es b as1 ws1 _ c.pick_at.new.answers (picked as1 ws1 reached rule);
     }

@@ -1,4 +1,4 @@
-use Rattle.std.proofs.Common.{◌≡◌, ℕ, suc, ◌*◌, ◌≤◌, List, map, length, take, Some, None, Ok, sym, refl, ap, ◌∙◌, subst, add-one, arith, rules}
+use Rattle.std.proofs.Common.{◌≡◌, ℕ, suc, ◌*◌, ◌≤◌, List, map, length, take, Some, None, Ok, sym, refl, ap, ◌∙◌, subst, add-one, arith}
 use Rattle.cover.specs.Distances.{Metric}
 use Rattle.row.specs.Seen.{judged, seen_rows}
 use Rattle.std.specs.List.{AllByRecursion as All}
@@ -24,7 +24,7 @@ returns-in-Some g c =
     let d = c.args.day in
     let dist = g.T.Tape.dist c.args.tape.now in
     let counts = g.W.Term.counts c.args.term.now in
-    let e : why_not_post b d ≡ Some c.in-Some.why = sym (c.why-not-post.ensures xs (sym c.len.ensures)) ∙ c.in-Some.is in
+    let e : why_not_post b d ≡ Some c.in-Some.why = sym (c.why_not_post.ensures xs (sym c.len.ensures)) ∙ c.in-Some.is in
     let rule = post_refused dist counts b p d c.in-Some.why e in
     let metric : Metric dist = record {
       range = g.met.T.Tape.range c.args.tape.now;
@@ -47,13 +47,13 @@ returns-in-Some g c =
       lent = refl;
     }
 
-pub change-rows-requires : goal.change-rows-requires
-change-rows-requires g c =
+pub change_rows-requires : goal.change_rows-requires
+change_rows-requires g c =
     let xs = c.args.shelf.now.places.now in
     let b = c.args.self.now in
     let few = b.few in
     let size = b.long in
-    let e : why_not_post (seen b xs) c.args.day ≡ None = sym (c.why-not-post.ensures xs (sym c.len.ensures)) ∙ c.in-default.is in
+    let e : why_not_post (seen b xs) c.args.day ≡ None = sym (c.why_not_post.ensures xs (sym c.len.ensures)) ∙ c.in_default.is in
     let room = post_room (seen b xs) c.args.day e in
     let n = rows_seen b.settings b.count b.rows xs (omega arith) in
     record { long = subst (λ (m : ℕ). m * part_size (judged b.settings) ≤ length xs) n room }
@@ -61,23 +61,23 @@ change-rows-requires g c =
 pub returns : goal.returns
 returns g c =
     let xs = c.args.shelf.now.places.now in
-    let ys = c.change-rows.new.places in
+    let ys = c.change_rows.new.places in
     let b0 = c.args.self.now in
-    let b1 = c.change-rows.new.self in
+    let b1 = c.change_rows.new.self in
     let b = seen b0 xs in
     let p = c.args.piece in
     let d = c.args.day in
     let dist = g.T.Tape.dist c.args.tape.now in
     let counts = g.W.Term.counts c.args.term.now in
-    let e : why_not_post b d ≡ None = sym (c.why-not-post.ensures xs (sym c.len.ensures)) ∙ c.in-default.is in
+    let e : why_not_post b d ≡ None = sym (c.why_not_post.ensures xs (sym c.len.ensures)) ∙ c.in_default.is in
     let after : ℕ → List (view.Row g.row.P.Denot) = λ n.
     map (post_row dist counts (judged b0.settings) (record { piece = p; arrival = n; day = d; attractor = 0 })) (seen_rows b0.settings (take b0.count b0.rows) xs) in
     let is : Fits (Opened (posted dist counts p d b)) → seen b1 ys ≡ posted dist counts p d b = λ fits.
     seen-after b0.settings b1.settings b0.count b1.count (suc b0.posts) b1.posts d b1.day (length xs) b1.rows ys (posted dist counts p d b)
-    c.change-rows.ensures.settings c.change-rows.ensures.count (c.change-rows.ensures.posts ∙ add-one b0.posts) c.change-rows.ensures.day
-    c.change-rows.auto.places
+    c.change_rows.ensures.settings c.change_rows.ensures.count (c.change_rows.ensures.posts ∙ add-one b0.posts) c.change_rows.ensures.day
+    c.change_rows.auto.places
     (ap (λ rs. record { settings = judged b0.settings; rows = rs; posts = suc b0.posts; day = d; places = length xs })
-    (c.change-rows.ensures.seen (subst (λ (n : ℕ). All (RowFits (judged b0.settings)) (after n)) (sym (add-one b0.posts)) fits)
+    (c.change_rows.ensures.seen (subst (λ (n : ℕ). All (RowFits (judged b0.settings)) (after n)) (sym (add-one b0.posts)) fits)
     ∙ ap after (add-one b0.posts))) in
     let rule : Fits (Opened (posted dist counts p d b)) → PostRule dist counts b p d (Ok tt) (seen b1 ys) = λ fits. post_performed dist counts b (seen b1 ys) p d e (is fits) in
     let metric : Metric dist = record {
@@ -95,7 +95,7 @@ returns g c =
       answer = ap (λ o. words.after o (Ok tt)) (sym e);
       rule = rule;
       refused = λ q. absurd (true_not_false q);
-      surplus = c.change-rows.ensures.surplus;
+      surplus = c.change_rows.ensures.surplus;
       run = λ es reached. runs.posted p d reached (rule (post_fitting dist metric counts law es b p d e reached));
       room = λ es reached.
           served dist metric counts law _ es (seen b1 ys) (runs.posted p d reached (rule (post_fitting dist metric counts law es b p d e reached)));

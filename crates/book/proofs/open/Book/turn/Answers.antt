@@ -16,7 +16,7 @@ returns-in-Some g c =
     let b = seen c.args.self.now xs in
     let d = c.args.day in
     let counts = g.W.Term.counts c.args.term.now in
-    let e : why_not_turn b d ≡ Some c.in-Some.why = sym (c.why-not-turn.ensures xs (sym c.len.ensures)) ∙ c.in-Some.is in
+    let e : why_not_turn b d ≡ Some c.in-Some.why = sym (c.why_not_turn.ensures xs (sym c.len.ensures)) ∙ c.in-Some.is in
     let rule = turn_refused counts b d c.in-Some.why e in
     let law : Lawful counts = record {
       newest = g.met.W.Term.newest c.args.term.now;
@@ -32,13 +32,13 @@ returns-in-Some g c =
       lent = refl;
     }
 
-pub change-rows-requires : goal.change-rows-requires
-change-rows-requires g c =
+pub change_rows-requires : goal.change_rows-requires
+change_rows-requires g c =
     let xs = c.args.shelf.now.places.now in
     let b = c.args.self.now in
     let few = b.few in
     let size = b.long in
-    let e : why_not_turn (seen b xs) c.args.day ≡ None = sym (c.why-not-turn.ensures xs (sym c.len.ensures)) ∙ c.in-default.is in
+    let e : why_not_turn (seen b xs) c.args.day ≡ None = sym (c.why_not_turn.ensures xs (sym c.len.ensures)) ∙ c.in_default.is in
     let room = turn_room (seen b xs) c.args.day e in
     let n = rows_seen b.settings b.count b.rows xs (omega arith) in
     record { long = subst (λ (m : ℕ). m * part_size (judged b.settings) ≤ length xs) n room }
@@ -46,20 +46,20 @@ change-rows-requires g c =
 pub returns : goal.returns
 returns g c =
     let xs = c.args.shelf.now.places.now in
-    let ys = c.change-rows.new.places in
+    let ys = c.change_rows.new.places in
     let b0 = c.args.self.now in
-    let b1 = c.change-rows.new.self in
+    let b1 = c.change_rows.new.self in
     let b = seen b0 xs in
     let d = c.args.day in
     let few = b0.few in
     let counts = g.W.Term.counts c.args.term.now in
-    let e : why_not_turn b d ≡ None = sym (c.why-not-turn.ensures xs (sym c.len.ensures)) ∙ c.in-default.is in
+    let e : why_not_turn b d ≡ None = sym (c.why_not_turn.ensures xs (sym c.len.ensures)) ∙ c.in_default.is in
     let fits = expired_fits counts b0.posts d b0.settings b0.count b0.rows xs (λ j h. b0.within j (omega arith)) in
     let is : seen b1 ys ≡ turned counts d b =
     seen-after b0.settings b1.settings b0.count b1.count b0.posts b1.posts d b1.day (length xs) b1.rows ys (turned counts d b)
-    c.change-rows.ensures.settings c.change-rows.ensures.count c.change-rows.ensures.posts c.change-rows.ensures.day
-    c.change-rows.auto.places
-    (ap (λ rs. record { settings = judged b0.settings; rows = rs; posts = b0.posts; day = d; places = length xs }) (c.change-rows.ensures.seen fits)) in
+    c.change_rows.ensures.settings c.change_rows.ensures.count c.change_rows.ensures.posts c.change_rows.ensures.day
+    c.change_rows.auto.places
+    (ap (λ rs. record { settings = judged b0.settings; rows = rs; posts = b0.posts; day = d; places = length xs }) (c.change_rows.ensures.seen fits)) in
     let rule = turn_performed counts b (seen b1 ys) d e is in
     let law : Lawful counts = record {
       newest = g.met.W.Term.newest c.args.term.now;
@@ -69,7 +69,7 @@ returns g c =
     record {
       rule = rule;
       refused = λ q. absurd (true_not_false q);
-      surplus = c.change-rows.ensures.surplus;
+      surplus = c.change_rows.ensures.surplus;
       run = λ dist metric es reached. runs.turned d reached rule;
       room = λ dist metric es reached. served dist metric counts law _ es (seen b1 ys) (runs.turned d reached rule);
       lent = refl;

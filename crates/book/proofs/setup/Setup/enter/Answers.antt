@@ -11,30 +11,27 @@ pub returns-in-Some : goal.returns-in-Some
 returns-in-Some g c =
     let u = setting_up c.args.self.now in
     let r = c.args.radius in
-    let e : why_not_radius u r ≡ Some c.in-Some.why = sym c.why-not.ensures ∙ c.in-Some.is in
+    let e : why_not_radius u r ≡ Some c.in-Some.why = sym c.why_not.ensures ∙ c.in-Some.is in
     let rule = radius-refused u r c.in-Some.why e in
     record { rule = rule; same = λ _. refl; run = λ dist counts es reached. tried r reached rule }
 
-pub invariant-of-self : goal.invariant-of-self
-invariant-of-self g c =
+pub invariant_of-self : goal.invariant_of-self
+invariant_of-self g c =
     let b = c.args.self.now in
     let low = b.some in
     let long = b.long in
     let few = b.few in
-    let e : why_not_radius (setting_up b) c.args.radius ≡ None = sym c.why-not.ensures ∙ c.in-default.is in
+    let e : why_not_radius (setting_up b) c.args.radius ≡ None = sym c.why_not.ensures ∙ c.in_default.is in
     let room = none_room (judged b.settings) (take b.count b.radii) c.args.radius e in
     let size = length-take-le b.count b.radii (omega arith) in
     let left = room.0 in
-    let inside : b.count < length b.radii = omega arith in (
-      omega arith,
-      (
-        omega arith,
-        (
-          length-set b.radii b.count c.args.radius ∙ long,
-          (bounded_set b.radii b.count c.args.radius inside room.1 b.bounded, tt),
-        ),
-      ),
-    )
+    let inside : b.count < length b.radii = omega arith in
+    record {
+      some = omega arith;
+      few = omega arith;
+      long = length-set b.radii b.count c.args.radius ∙ long;
+      bounded = bounded_set b.radii b.count c.args.radius inside room.1 b.bounded;
+    }
 
 pub returns : goal.returns
 returns g c =
@@ -42,7 +39,7 @@ returns g c =
     let r = c.args.radius in
     let long = b.long in
     let few = b.few in
-    let e : why_not_radius (setting_up b) r ≡ None = sym c.why-not.ensures ∙ c.in-default.is in
+    let e : why_not_radius (setting_up b) r ≡ None = sym c.why_not.ensures ∙ c.in_default.is in
     let room = none_room (judged b.settings) (take b.count b.radii) r e in
     let size = length-take-le b.count b.radii (omega arith) in
     let left = room.0 in

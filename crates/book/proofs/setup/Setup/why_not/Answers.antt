@@ -3,13 +3,13 @@ use Rattle.row.specs.Seen.{judged}
 use Rattle.book.proofs.Settling.{why-last}
 use Rattle.book.proofs.setup.Setup.why_not.Goals as goal
 
-pub returns-then-not-may-follow : goal.returns-then-not-may-follow
-returns-then-not-may-follow g c =
+pub returns-then-not-may_follow : goal.returns-then-not-may_follow
+returns-then-not-may_follow g c =
     let u = c.args.self.now in
     let low = u.some in
     let long = u.long in
     let room = c.if-self-ge24.false in
-    sym (why-last (judged u.settings) u.radii u.count c.args.radius _ low (omega arith) (omega arith) c.if-not-may-follow.ensures)
+    sym (why-last (judged u.settings) u.radii u.count c.args.radius _ low (omega arith) (omega arith) c.if-not-may_follow.ensures)
 
 pub returns : goal.returns
 returns g c =
@@ -17,4 +17,4 @@ returns g c =
     let low = u.some in
     let long = u.long in
     let room = c.if-self-ge24.false in
-    sym (why-last (judged u.settings) u.radii u.count c.args.radius _ low (omega arith) (omega arith) c.if-not-may-follow.ensures)
+    sym (why-last (judged u.settings) u.radii u.count c.args.radius _ low (omega arith) (omega arith) c.if-not-may_follow.ensures)

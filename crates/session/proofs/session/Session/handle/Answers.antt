@@ -5,14 +5,14 @@ use Rattle.session.proofs.Handled.{Handled, located_ok, order_taken, piece_refus
 use Rattle.session.specs.Seen.{hall_of}
 use Rattle.session.proofs.session.Session.handle.Goals as goal
 
-pub returns-in-err-order : goal.returns-in-err-order
-returns-in-err-order c =
+pub returns-in_err-order : goal.returns-in_err-order
+returns-in_err-order c =
     let xs = c.args.panels.now.places.now in
     let ys = c.args.parts.now.places.now in
     let was = hall_of c.args.self.now xs ys in
-    let p = err_from_is_err_and c.from-residual.result c.from-residual.ensures.1 in
-    let made : order_of c.args.offset c.args.command ≡ Err p.0 = sym c.in-err-order.ensures ∙ ap Err (sym p.2) in
-    let done : Handled (length xs) (length ys) c.args.offset c.args.command c.from-residual.result was was =
+    let p = err_from_is_err_and c.from_residual.result c.from_residual.ensures.1 in
+    let made : order_of c.args.offset c.args.command ≡ Err p.0 = sym c.in_err-order.ensures ∙ ap Err (sym p.2) in
+    let done : Handled (length xs) (length ys) c.args.offset c.args.command c.from_residual.result was was =
     subst (λ r. Handled (length xs) (length ys) c.args.offset c.args.command r was was) (sym p.1)
     (piece_refused (length xs) (length ys) c.args.offset c.args.command p.0 was made) in
     record {
@@ -33,10 +33,10 @@ returns c =
     let ys2 = c.take.new.parts.places.now in
     let was = hall_of c.args.self.now xs ys in
     let is = hall_of c.take.new.self xs2 ys2 in
-    let made : order_of c.args.offset c.args.command ≡ Ok c.in-ok-order.order = sym c.in-ok-order.ensures in
+    let made : order_of c.args.offset c.args.command ≡ Ok c.in_ok-order.order = sym c.in_ok-order.ensures in
     let done : Handled (length xs) (length ys) c.args.offset c.args.command c.located.result was is =
     subst (λ r. Handled (length xs) (length ys) c.args.offset c.args.command r was is) (sym c.located.ensures)
-    (order_taken (length xs) (length ys) c.args.offset c.args.command c.in-ok-order.order c.take.result was is made c.take.ensures.moved) in
+    (order_taken (length xs) (length ys) c.args.offset c.args.command c.in_ok-order.order c.take.result was is made c.take.ensures.moved) in
     record {
       answer = done.answer;
       left = done.left;

@@ -15,7 +15,7 @@ loop-station-preserved c =
     let more = widest_more n xs ys in
     let x_fits : SFits w32 (get_or xs n (pos 0)) = search rules in
     let y_fits : SFits w32 (get_or ys n (pos 0)) = search rules in
-    let here : c.abs-diff.result ≡ gap (get_or xs n (pos 0)) (get_or ys n (pos 0)) = simp to_z-of_z at c.abs-diff.ensures in
+    let here : c.abs_diff.result ≡ gap (get_or xs n (pos 0)) (get_or ys n (pos 0)) = simp to_z-of_z at c.abs_diff.ensures in
     omega arith
 
 pub returns : goal.returns
