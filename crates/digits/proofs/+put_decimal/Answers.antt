@@ -1,4 +1,4 @@
-use Rattle.std.proofs.Common.{◌≡◌, ◌+◌, ◌/◌, ◌%◌, ◌^◌, ◌<◌, ◌≤◌, true, [], ◌∷◌, ◌++◌, length, take, decimal, sym, ap, ◌∙◌, arith, rules}
+use Rattle.std.proofs.Common.{◌/◌, ◌%◌, ◌^◌, ◌<◌, true, ◌++◌, take, decimal, sym, ap, ◌∙◌, arith, rules}
 use Rattle.std.specs.Fmt.{digit_glyph}
 use Rattle.digits.proofs.Figures.{decimal_one, decimal_more, length_one, length_more, join}
 use Rattle.digits.proofs.+put_decimal.Goals as goal
@@ -6,7 +6,7 @@ use Rattle.digits.proofs.+put_decimal.Goals as goal
 pub put_digit-requires : goal.put_digit-requires
 put_digit-requires t c =
     let one = length_one c.args.n c.if-n-lt10.true in
-    (omega arith, omega arith)
+    record { at_in_bounds = omega arith; digit_bound = omega arith }
 
 pub returns-then-n-lt10 : goal.returns-then-n-lt10
 returns-then-n-lt10 t c =
@@ -29,7 +29,7 @@ put_digit-requires-2 t c =
     let fits : c.args.n < 2 ^ 64 = search rules in
     let len = length_more c.args.n c.if-n-lt10.false fits in
     let end = c.put_decimal-last.ensures.end in
-    (omega arith, omega arith)
+    record { at_in_bounds = omega arith; digit_bound = omega arith }
 
 pub returns : goal.returns
 returns t c =

@@ -1,4 +1,4 @@
-use Rattle.std.proofs.Common.{◌≡◌, ◌+◌, ◌-◌, ◌/◌, ◌%◌, ◌<◌, ◌≤◌, true, [], ◌∷◌, ◌++◌, length, take, sym, refl, ap, ◌∙◌, append-nil, arith, rules}
+use Rattle.std.proofs.Common.{◌≡◌, ◌-◌, ◌/◌, ◌%◌, ◌<◌, true, [], ◌++◌, take, sym, refl, ap, ◌∙◌, append-nil, arith}
 use Rattle.std.specs.Fmt.{digit_glyph}
 use Rattle.digits.specs.Digits.{hex_digits}
 use Rattle.digits.proofs.Figures.{hex_none, hex_more, join}

@@ -1,4 +1,4 @@
-use Rattle.std.proofs.Common.{◌≡◌, take, nat_abs, sym, ap, ◌∙◌, arith, w32, rules}
+use Rattle.std.proofs.Common.{◌≡◌, take, nat_abs, ap, ◌∙◌, arith, w32}
 use Rattle.std.proofs.lemmas.Int.{to_z-of_z}
 use Rattle.digits.proofs.Figures.{below_zero, minus_front, minus_length}
 use Rattle.digits.proofs.put_offset.Goals as goal

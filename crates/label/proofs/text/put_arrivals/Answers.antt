@@ -1,4 +1,4 @@
-use Rattle.std.proofs.Common.{◌≡◌, ◌<◌, ◌≤◌, ◌++◌, length, take, ap, ◌∙◌, arith, rules}
+use Rattle.std.proofs.Common.{◌<◌, ◌++◌, length, take, ap, ◌∙◌, arith, rules}
 use Rattle.label.specs.Texts.{arrivals_text}
 use Rattle.label.proofs.Arrivals.{arrival_more, all-counted}
 use Rattle.label.proofs.text.put_arrivals.Goals as goal
@@ -11,13 +11,13 @@ loop-i-preserved c =
     let low = c.loop-i.invariant.1 in
     let at = c.loop-i.invariant.2 in
     let one = c.put-at.ensures.end in
-    let bound = c.put_number_at.ensures.bound in
-    let end = c.put_number_at.ensures.end in (
+    let bound = c.put_number-at.ensures.bound in
+    let end = c.put_number-at.ensures.end in (
       arrival_more (take c.args.at c.args.out.now) (take c.loop-i.at c.loop-i.out) (take c.put-at.result c.put-at.new.out)
-          (take c.put_number_at.result c.put_number_at.new.out) ns i here c.loop-i.invariant.0 c.put-at.ensures.front c.put_number_at.ensures.front,
+          (take c.put_number-at.result c.put_number-at.new.out) ns i here c.loop-i.invariant.0 c.put-at.ensures.front c.put_number-at.ensures.front,
       omega arith,
       omega arith,
-      λ k h. c.put_number_at.ensures.back k h ∙ c.put-at.ensures.back k (omega arith) ∙ c.loop-i.invariant.3 k (omega arith),
+      λ k h. c.put_number-at.ensures.back k h ∙ c.put-at.ensures.back k (omega arith) ∙ c.loop-i.invariant.3 k (omega arith),
     )
 
 pub returns : goal.returns

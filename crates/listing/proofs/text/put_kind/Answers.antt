@@ -1,10 +1,10 @@
-use Rattle.std.proofs.Common.{◌≡◌, ◌++◌, take, codes, decimal, sym, ap, ◌∙◌, arith, rules}
+use Rattle.std.proofs.Common.{◌≡◌, ◌++◌, take, codes, decimal, ap, ◌∙◌, arith, rules}
 use Rattle.digits.proofs.Figures.{then_text}
 use Rattle.listing.proofs.Unnamed.{kind_rest}
 use Rattle.listing.proofs.text.put_kind.Goals as goal
 
-pub returns-in-default : goal.returns-in-default
-returns-in-default c =
+pub returns-in_default : goal.returns-in_default
+returns-in_default c =
     let bs = take c.args.at c.args.out.now in
     let kind = c.args.kind in
     let value : c.from.result ≡ kind = search rules in

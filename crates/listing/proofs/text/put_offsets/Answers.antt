@@ -1,4 +1,4 @@
-use Rattle.std.proofs.Common.{◌≡◌, ◌<◌, ◌≤◌, ◌++◌, length, get_or, take, pos, sym, refl, ap, ◌∙◌, append-nil, arith, w32, SFits, rules}
+use Rattle.std.proofs.Common.{◌≡◌, ◌<◌, ◌++◌, length, get_or, take, pos, sym, refl, ap, ◌∙◌, append-nil, arith, w32, SFits, rules}
 use Rattle.std.proofs.lemmas.List.{take_all}
 use Rattle.std.proofs.lemmas.Int.{to_z-of_z}
 use Rattle.std.specs.Fmt.{signed_decimal}
@@ -19,18 +19,18 @@ loop-i-preserved c =
     let here : i < length zs = omega arith in
     let fits : SFits w32 (get_or zs i (pos 0)) = search rules in
     let same = to_z-of_z w32 (get_or zs i (pos 0)) fits in
-    let front : take c.put_offset_at.result c.put_offset_at.new.out ≡ take c.put-at.result c.put-at.new.out ++ signed_decimal (get_or zs i (pos 0))
-    = c.put_offset_at.ensures.front ∙ ap (λ z. take c.put-at.result c.put-at.new.out ++ signed_decimal z) same in
+    let front : take c.put_offset-at.result c.put_offset-at.new.out ≡ take c.put-at.result c.put-at.new.out ++ signed_decimal (get_or zs i (pos 0))
+    = c.put_offset-at.ensures.front ∙ ap (λ z. take c.put-at.result c.put-at.new.out ++ signed_decimal z) same in
     let low = c.loop-i.invariant.1 in
     let at = c.loop-i.invariant.2 in
     let one = c.put-at.ensures.end in
-    let bound = c.put_offset_at.ensures.bound in
-    let end = c.put_offset_at.ensures.end in (
+    let bound = c.put_offset-at.ensures.bound in
+    let end = c.put_offset-at.ensures.end in (
       offset_more (take c.args.at c.args.out.now) (take c.loop-i.at c.loop-i.out) (take c.put-at.result c.put-at.new.out)
-          (take c.put_offset_at.result c.put_offset_at.new.out) zs i here c.loop-i.invariant.0 c.put-at.ensures.front front,
+          (take c.put_offset-at.result c.put_offset-at.new.out) zs i here c.loop-i.invariant.0 c.put-at.ensures.front front,
       omega arith,
       omega arith,
-      λ k h. c.put_offset_at.ensures.back k h ∙ c.put-at.ensures.back k (omega arith) ∙ c.loop-i.invariant.3 k (omega arith),
+      λ k h. c.put_offset-at.ensures.back k h ∙ c.put-at.ensures.back k (omega arith) ∙ c.loop-i.invariant.3 k (omega arith),
     )
 
 pub returns : goal.returns

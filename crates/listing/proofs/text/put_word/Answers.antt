@@ -1,4 +1,4 @@
-use Rattle.std.proofs.Common.{◌≡◌, ◌++◌, take, codes, ap, ◌∙◌, arith}
+use Rattle.std.proofs.Common.{◌++◌, take, codes, ap, ◌∙◌, arith}
 use Rattle.digits.specs.Digits.{hex_digits}
 use Rattle.digits.proofs.Figures.{then_text}
 use Rattle.listing.proofs.text.put_word.Goals as goal
