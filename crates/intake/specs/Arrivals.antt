@@ -1,5 +1,5 @@
 -- What stands at the front of the bytes of a feed that have come.
-use Rattle.std.specs.Prelude.{◌≡◌, Bool, true, false, List, [], ◌⊎◌, ℕ, ◌<◌, length}
+use Rattle.std.specs.Prelude.{◌≡◌, Bool, true, false, List, ◌⊎◌, ℕ, ◌<◌, length}
 use Rattle.command.specs.Commands.{Carried}
 use Rattle.fault.specs.Faults.{refused_at}
 use Rattle.refusal.specs.declared.Refusal.TheVariants.{CutShort, UnknownByte}

@@ -1,5 +1,5 @@
 -- What reading answers is exactly what stands there.
-use Rattle.std.proofs.Common.{◌≡◌, ℕ, ◌+◌, ◌<◌, ◌≤◌, Bool, true, false, cond, eqb, ◌⊎◌, List, [], ◌∷◌, ◌++◌, length, get_or, take, drop, Ok, Err, Result, sym, refl, ap, ◌∙◌, subst, inl, inr, ⊎_elim, arith, length-append, length-drop}
+use Rattle.std.proofs.Common.{◌≡◌, ℕ, ◌<◌, ◌≤◌, Bool, true, false, cond, eqb, List, ◌++◌, length, get_or, drop, Ok, Err, Result, sym, refl, ap, ◌∙◌, subst, inr, ⊎_elim, arith, length-append, length-drop}
 use Rattle.std.proofs.lemmas.List.{take_at, take-append-drop, length-take-le, drop_more}
 use Rattle.fault.specs.declared.Fault.{Fault}
 use Rattle.command.specs.declared.Command.{Command}
@@ -9,7 +9,7 @@ use Rattle.std.proofs.lemmas.Bool.Decides.{nat_tests}
 use Rattle.command.specs.Verbs.{letter, width}
 use Rattle.command.specs.Commands.{bytes_of, size_of, verb_of, Carried}
 use Rattle.command.proofs.Laws.{one_reading, size_is_length}
-use Rattle.wire.specs.Wire.{room_for, if_room, with_front, Stands, Unknown, Short, Reads, Answers, Copied}
+use Rattle.wire.specs.Wire.{room_for, if_room, with_front, Stands, Reads, Answers, Copied}
 
 -- the width by the letter
 width_by : ℕ → ℕ

@@ -1,5 +1,5 @@
 use Rattle.std.proofs.Common.{◌≡◌, ◌+◌, ◌*◌, ◌<◌, length, get_or, drop, sym, ap, ◌∙◌, arith, rules}
-use Rattle.script.specs.Numerals.{digit_of, counted, numeral_of}
+use Rattle.script.specs.Numerals.{digit_of, counted}
 use Rattle.script.proofs.Counting.{counted_more, counted_stops, counted-all, numeral_some}
 use Rattle.script.proofs.number.numeral.Goals as goal
 

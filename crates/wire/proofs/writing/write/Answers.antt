@@ -1,4 +1,4 @@
-use Rattle.std.proofs.Common.{◌≡◌, ◌≤◌, length, Ok, sym, ap, ◌∙◌, arith, rules}
+use Rattle.std.proofs.Common.{◌≤◌, length, Ok, sym, ap, ◌∙◌, arith}
 use Rattle.command.specs.Commands.{size_of}
 use Rattle.wire.specs.Wire.{if_room}
 use Rattle.wire.proofs.Parts.{room, fronted}
