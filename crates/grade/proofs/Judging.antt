@@ -1,5 +1,5 @@
 -- From what the two passes found to the verdict.
-use Rattle.std.proofs.Common.{◌≡◌, ℕ, true, false, List, length, Some, None, Decides, Option, sym, refl, ap, ◌∙◌, subst, arith, MatchOption}
+use Rattle.std.proofs.Common.{◌≡◌, ℕ, false, List, length, Some, None, Decides, Option, sym, refl, ap, ◌∙◌, subst, arith, MatchOption}
 use Rattle.refusal.specs.declared.Breach.{Breach}
 use Rattle.grade.specs.Tables.{entry, Lawful}
 use Rattle.grade.specs.Verdicts.{EntriesHold, FirstEntry, FirstWay, Named, WaysHold}

@@ -1,5 +1,5 @@
 -- What laying a tape answers.
-use Rattle.std.specs.Prelude.{◌≡◌, ℕ, Some, None, Ok, Err, Option, Result}
+use Rattle.std.specs.Prelude.{◌≡◌, ℕ, Some, None, Ok, Option, Result}
 use Rattle.tape.specs.Combined.{cut_off}
 use Rattle.refusal.specs.Makes.{MadeIf, OneToMillion}
 use Rattle.refusal.specs.declared.Refusal.{Refusal}

@@ -1,5 +1,5 @@
-use Rattle.std.proofs.Common.{ℕ, List, None, refl, subst, inr, MatchOption}
-use Rattle.grade.specs.Verdicts.{EntriesHold, FirstEntry, FirstWay, Named, WaysHold}
+use Rattle.std.proofs.Common.{ℕ, List, refl, subst, inr}
+use Rattle.grade.specs.Verdicts.{EntriesHold, Named, WaysHold}
 use Rattle.grade.proofs.Judging.{lawful, named-entry, named_way, never}
 use Rattle.grade.proofs.table.CheckedTable.check.Goals as goal
 
@@ -18,13 +18,13 @@ returns-in-Some-first_way c =
     let b = c.in-Some-first_way.breach in
     let named : Named c.args.numbers.now b =
     subst (λ (xs : List ℕ). Named xs b) whole.same
-    (named_way c.in-Ok.numbers.now b c.in-default-first_entry.ensures c.in-Some-first_way.ensures) in
+    (named_way c.in-Ok.numbers.now b c.in_default-first_entry.ensures c.in-Some-first_way.ensures) in
     record { verdict = (refl, inr (whole.long, (b, refl, named))); exactly = never c.args.numbers.now b named }
 
 pub returns : goal.returns
 returns c =
     let whole = c.in-Ok.ensures.1 in
-    let entries = subst (λ (xs : List ℕ). EntriesHold xs 256) whole.same c.in-default-first_entry.ensures in
-    let ways = subst (λ (xs : List ℕ). WaysHold xs 4096) whole.same c.in-default-first_way.ensures in
+    let entries = subst (λ (xs : List ℕ). EntriesHold xs 256) whole.same c.in_default-first_entry.ensures in
+    let ways = subst (λ (xs : List ℕ). WaysHold xs 4096) whole.same c.in_default-first_way.ensures in
     let laws = lawful c.args.numbers.now entries ways in
     record { verdict = (whole.long, laws, whole.same); exactly = (λ _. (whole.long, laws), λ _. refl) }

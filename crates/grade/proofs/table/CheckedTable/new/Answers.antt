@@ -1,4 +1,4 @@
-use Rattle.std.proofs.Common.{◌≡◌, ℕ, zero, suc, ◌+◌, ◌*◌, ◌≤◌, get_or, replicate, refl, arith}
+use Rattle.std.proofs.Common.{◌≡◌, ℕ, zero, suc, ◌+◌, ◌*◌, get_or, replicate, refl, arith}
 use Rattle.grade.specs.Tables.{entry}
 use Rattle.grade.proofs.table.CheckedTable.new.Goals as goal
 
@@ -10,14 +10,10 @@ blank (suc n) (suc k) = blank n k
 none : (i j : ℕ) → entry (replicate 256 0) i j ≡ 0
 none i j = blank 256 (i * 16 + j)
 
-pub invariant-of-result : goal.invariant-of-result
-invariant-of-result c = (
-  λ i j h. omega (arith, none i j),
-  (
-    λ i h. none i i,
-    (
-      λ i j h. omega (arith, none i j, none j i),
-      (λ i j m h. omega (arith, none i j, none i m, none m j), tt),
-    ),
-  ),
-)
+pub invariant_of-result : goal.invariant_of-result
+invariant_of-result c = record {
+  bounded = λ i j h. omega (arith, none i j);
+  hollow = λ i h. none i i;
+  mirrored = λ i j h. omega (arith, none i j, none j i);
+  direct = λ i j m h. omega (arith, none i j, none i m, none m j);
+}
