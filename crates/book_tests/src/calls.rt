@@ -43,11 +43,16 @@ fn check_pick<P: Copy, T: Tape<P>, W: Term>(
     term: &W,
     wanted: Result<Picked, Refusal>,
     centres: [u32; 3],
+    number: usize,
 ) -> Result<(), Fail> {
     let mut answers = [0; 3];
     let mut work = [0; 64];
     let answer = book.pick(shelf, tape, term, &mut answers, &mut work);
-    assert_eq!(rt; (answer, answers), (wanted, centres));
+    assert_eq!(rt;
+        (answer, answers),
+        (wanted, centres),
+        "call {number}, counting from 0"
+    );
     Ok(())
 }
 
@@ -73,14 +78,23 @@ fn check_piece<P: Copy, T: Tape<P>>(
     tape: &T,
     handed: Result<P, Refusal>,
     wanted: Result<P, Refusal>,
+    number: usize,
 ) -> Result<(), Fail> {
     match (handed, wanted) {
         (Ok(handed), Ok(wanted)) => {
-            assert_eq!(rt; tape.measure(&handed, &wanted), 0);
+            assert_eq!(rt;
+                tape.measure(&handed, &wanted),
+                0,
+                "call {number}, counting from 0"
+            );
             Ok(())
         },
         (handed, wanted) => {
-            assert_eq!(rt; handed.err(), wanted.err());
+            assert_eq!(rt;
+                handed.err(),
+                wanted.err(),
+                "call {number}, counting from 0"
+            );
             Ok(())
         },
     }
@@ -94,6 +108,7 @@ fn read<P: Copy, T: Tape<P>, W: Term>(
     tape: &T,
     term: &W,
     call: Call<P>,
+    number: usize,
 ) -> Result<(), Fail> {
     match call {
         Call::Pick(grain, count, radius, floor, centres) => {
@@ -103,19 +118,29 @@ fn read<P: Copy, T: Tape<P>, W: Term>(
                 floor,
                 grain,
             };
-            check_pick(rt, book, shelf, tape, term, Ok(picked), centres)
+            check_pick(rt, book, shelf, tape, term, Ok(picked), centres, number)
         }
-        Call::NoPick(why) => check_pick(rt, book, shelf, tape, term, Err(why), [0; 3]),
+        Call::NoPick(why) => check_pick(rt, book, shelf, tape, term, Err(why), [0; 3], number),
         Call::PickWithin(answers, work, wanted) => {
             let why = why_not_pick(book, shelf, tape, term, answers, work);
-            assert_eq!(rt; why, wanted);
+            assert_eq!(rt; why, wanted, "call {number}, counting from 0");
             Ok(())
         }
         Call::Find(arrival, wanted) => {
-            assert_eq!(rt; book.find(shelf, arrival), wanted);
+            assert_eq!(rt;
+                book.find(shelf, arrival),
+                wanted,
+                "call {number}, counting from 0"
+            );
             Ok(())
         },
-        Call::HandOut(at, wanted) => check_piece(rt, tape, book.hand_out(shelf, at), wanted),
+        Call::HandOut(at, wanted) => check_piece(
+            rt,
+            tape,
+            book.hand_out(shelf, at),
+            wanted,
+            number,
+        ),
         Call::Post(..) | Call::Turn(..) => Err(Fail::new("it changes the book")),
     }
 }
@@ -127,17 +152,26 @@ fn make<P: Copy, T: Tape<P>, W: Term>(
     tape: &T,
     term: &W,
     call: Call<P>,
+    number: usize,
 ) -> Result<(), Fail> {
     match call {
         Call::Post(piece, day, wanted) => {
-            assert_eq!(rt; book.post(shelf, tape, term, piece, day), wanted);
+            assert_eq!(rt;
+                book.post(shelf, tape, term, piece, day),
+                wanted,
+                "call {number}, counting from 0"
+            );
             Ok(())
         }
         Call::Turn(day, wanted) => {
-            assert_eq!(rt; book.turn(shelf, term, day), wanted);
+            assert_eq!(rt;
+                book.turn(shelf, term, day),
+                wanted,
+                "call {number}, counting from 0"
+            );
             Ok(())
         },
-        _ => read(rt, book, shelf, tape, term, call),
+        _ => read(rt, book, shelf, tape, term, call, number),
     }
 }
 
@@ -153,9 +187,7 @@ pub fn follow<P: Copy, T: Tape<P>, W: Term>(
     let mut shelf = Shelf { places };
     let mut number = 0usize;
     for call in calls {
-        make(rt, book, &mut shelf, tape, term, *call).note(format_args!(
-            "call {number}, counting from 0"
-        ))?;
+        make(rt, book, &mut shelf, tape, term, *call, number)?;
         number = number.saturating_add(1);
     }
     Ok(())
