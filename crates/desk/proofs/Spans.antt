@@ -1,5 +1,5 @@
 -- A term that is chosen at run time obeys the laws of a term.
-use Rattle.std.proofs.Common.{◌≡◌, ℕ, ◌<◌, arith}
+use Rattle.std.proofs.Common.{ℕ, ◌<◌, arith}
 use Rattle.std.proofs.lemmas.Bool.Decides.{nat_tests}
 use Rattle.rules.specs.Laws.{Lawful}
 use Rattle.term.specs.Formulas.{by_days, by_number}

@@ -6,7 +6,7 @@ use Rattle.refusal.specs.declared.Refusal.{Refusal}
 use Rattle.rules.specs.Calls.{PostRule, posted, why_not_post}
 use Rattle.rules.specs.Laws.{Lawful}
 use Rattle.rules.specs.Promises.{Fits, Story}
-use Rattle.rules.specs.Runs.{Opened, Stage}
+use Rattle.rules.specs.Runs.{Opened}
 use Rattle.rules.specs.Views.{View}
 use Rattle.rules.specs.Words.{after, leaves}
 use Rattle.rules.specs.declared.place.Place.{Place}
@@ -18,7 +18,7 @@ use Rattle.book.specs.declared.open.Book.{Book}
 use Rattle.book.specs.declared.setup.Setup.{Setup}
 use Rattle.desk.proofs.Leading.{led_fits, led_keeps, led_on}
 use Rattle.desk.specs.Accounts.{Kept, Led, heard}
-use Rattle.desk.specs.Asks.{answer_to, performed, stage_after}
+use Rattle.desk.specs.Asks.{performed, stage_after}
 use Rattle.desk.specs.Seen.{Took, stage_of}
 use Rattle.desk.specs.declared.ask.Ask.{Ask}
 use Rattle.desk.specs.declared.ask.Ask.TheVariants.{Post}

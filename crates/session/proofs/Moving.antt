@@ -1,5 +1,5 @@
 -- From what a desk promises to what the session promises.
-use Rattle.std.proofs.Common.{◌≡◌, ℕ, false, List, length, is_ok, Some, None, Ok, Err, Option, Result, sym, refl, ap, ◌∙◌, subst}
+use Rattle.std.proofs.Common.{◌≡◌, ℕ, List, length, Some, None, Ok, Option, Result, sym, refl, ap, ◌∙◌, subst}
 use Rattle.cover.specs.Distances.{Distance}
 use Rattle.desk.specs.Accounts.{Kept, Led, heard}
 use Rattle.desk.specs.Asks.{answer_to, stage_after}
@@ -19,8 +19,8 @@ use Rattle.term.specs.Formulas.{Rule}
 use Rattle.term.specs.Spans.{spanned}
 use Rattle.term.specs.declared.span.Span.{Span}
 use Rattle.term.specs.declared.span.Span.TheVariants as span
-use Rattle.session.specs.Halls.{Hall, Idle, OfPanels, OfParts, Window, begun_answer, begun_hall, hall_for, hull_dist, joinery_dist, panel_ask, part_ask, rule_of, settings_for, window_for}
-use Rattle.session.specs.Seen.{Moved, OrderKept, hall_by, window_of}
+use Rattle.session.specs.Halls.{Hall, Idle, OfPanels, OfParts, begun_answer, begun_hall, hall_for, hull_dist, joinery_dist, panel_ask, part_ask, rule_of, settings_for, window_for}
+use Rattle.session.specs.Seen.{Moved, OrderKept, window_of}
 
 -- the meaning of a term chosen at run time is that of its window
 rule_of_lem : (s : Span) → spanned s ≡ rule_of (window_of s)

@@ -1,18 +1,15 @@
 -- Every list of commands leads a session along a run of its book, so that every answer keeps its promise.
-use Rattle.std.proofs.Common.{◌≡◌, ℕ, ◌≤◌, Bool, true, false, cond, ◌&&◌, eqb, List, [], ◌∷◌, ℤ, Some, None, Ok, Err, Option, Result, sym, refl, ap, ◌∙◌, subst, arith}
+use Rattle.std.proofs.Common.{◌≡◌, ℕ, Bool, true, false, cond, eqb, List, [], ◌∷◌, ℤ, Some, None, Ok, Err, Option, Result, sym, refl, ap, ◌∙◌, subst, arith}
 use Rattle.std.proofs.lemmas.Bool.Decides.{nat_tests}
 use Rattle.command.specs.declared.Command.{Command}
 use Rattle.command.specs.declared.Command.TheVariants as command
-use Rattle.cover.specs.Distances.{Distance}
 use Rattle.desk.proofs.Leading.{begin_led, led_on}
-use Rattle.desk.specs.Accounts.{Kept, Led, RoomKept, begun_with, heard}
-use Rattle.desk.specs.Asks.{answer_to, stage_after}
-use Rattle.desk.specs.declared.ask.Ask.{Ask}
-use Rattle.desk.specs.declared.ask.Ask.TheVariants as ask
+use Rattle.desk.specs.Accounts.{Led, begun_with, heard}
+use Rattle.desk.specs.Asks.{answer_to}
 use Rattle.fault.specs.Faults.{and_then, located_at, refused_at}
 use Rattle.fault.specs.declared.Fault.{Fault}
 use Rattle.label.specs.declared.Label.{Label}
-use Rattle.order.specs.Orders.{in_range, order_of, panel_of}
+use Rattle.order.specs.Orders.{in_range, order_of}
 use Rattle.order.specs.declared.Order.{Order}
 use Rattle.order.specs.declared.Order.TheVariants as order
 use Rattle.refusal.specs.declared.Refusal.{Refusal}
@@ -25,8 +22,7 @@ use Rattle.rules.specs.Runs as event
 use Rattle.rules.specs.Views as view
 use Rattle.tape.specs.declared.hull.Panel.{Panel}
 use Rattle.tape.specs.declared.joinery.Part.{Part}
-use Rattle.term.specs.Formulas.{Rule}
-use Rattle.session.specs.Halls.{Hall, Idle, OfPanels, OfParts, Window, after_order, answer_at, answer_of, begun_answer, begun_hall, hall_after, hall_for, hall_from, hull_dist, joinery_dist, panel_ask, part_ask, rule_of, settings_for, window_for}
+use Rattle.session.specs.Halls.{Hall, Idle, OfPanels, OfParts, Window, after_order, answer_of, begun_answer, begun_hall, hall_for, hall_from, hull_dist, joinery_dist, panel_ask, part_ask, rule_of, settings_for, window_for}
 use Rattle.session.specs.Seen.{HallLed, OrderKept}
 use Rattle.session.specs.Talks.{Account, Promised, Told, account_for, account_of, begun_by, noted, talk_of, to_panels, to_parts, unlocated}
 use Rattle.session.specs.Talks as talk

@@ -1,5 +1,5 @@
 -- A session and its shelves as the definitions see them, and what taking an order promises of them.
-use Rattle.std.specs.Prelude.{◌≡◌, ℕ, false, List, length, is_ok, Some, None, Option, Result}
+use Rattle.std.specs.Prelude.{◌≡◌, ℕ, false, List, is_ok, Some, None, Option, Result}
 use Rattle.desk.specs.Accounts.{Kept, Led}
 use Rattle.desk.specs.Seen.{Spared, stage_of}
 use Rattle.desk.specs.declared.desk.Desk.{Desk}

@@ -1,6 +1,5 @@
-use Rattle.std.proofs.Common.{◌≡◌, sym, refl, ap, subst}
+use Rattle.std.proofs.Common.{sym, refl, ap, subst}
 use Rattle.book.proofs.Settling.{judged-holds}
-use Rattle.book.specs.Seen.{setting_up}
 use Rattle.row.specs.Seen.{judged}
 use Rattle.rules.specs.Runs.{SettingUp}
 use Rattle.desk.proofs.Leading.{begin_led}

@@ -1,4 +1,4 @@
-use Rattle.std.proofs.Common.{◌≡◌, ℕ, length, None, Ok, sym, refl, ap, subst, arith}
+use Rattle.std.proofs.Common.{◌≡◌, ℕ, length, None, Ok, sym, subst, arith}
 use Rattle.session.specs.Seen.{Moved, hall_by, hall_of}
 use Rattle.session.proofs.Moving.{started}
 use Rattle.session.proofs.session.Session.start.Goals as goal

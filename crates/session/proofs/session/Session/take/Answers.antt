@@ -1,6 +1,5 @@
-use Rattle.std.proofs.Common.{◌≡◌, length, Some, None, sym, refl, ap, ◌∙◌, subst}
-use Rattle.session.specs.Seen.{Moved, UntouchedBy, hall_by, hall_of}
-use Rattle.session.specs.declared.session.Kind.TheVariants.{Hull, Joinery}
+use Rattle.std.proofs.Common.{length, Some, sym, refl, ap, ◌∙◌, subst}
+use Rattle.session.specs.Seen.{Moved, UntouchedBy, hall_by}
 use Rattle.session.proofs.Moving.{panels_moved, parts_moved}
 use Rattle.session.proofs.session.Session.take.Goals as goal
 
