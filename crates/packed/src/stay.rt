@@ -1,6 +1,6 @@
 //! What stays of a list.
 
-ghost use Rattle.std.specs.Prelude.{◌≡◌, ℕ, ◌+◌, ◌-◌, ◌<◌, ◌≤◌, map, length, take, filter};
+ghost use Rattle.std.specs.Prelude.{◌≡◌, ℕ, ◌+◌, ◌<◌, ◌≤◌, map, length, take, filter};
 ghost use Rattle.std.specs.List.{remove};
 ghost use Rattle.packed.specs.Lists.{Between, cut, picked};
 
@@ -92,16 +92,6 @@ pub fn marks_in<P, Q: Test<P>>(part: &[Place<P>], at: usize, len: usize, test: &
     marks(&part[at..at + len], test)
 }
 
-/// Moves the places behind `i` one to the front.
-fn close_gap<P: Copy>(list: &mut [Place<P>], i: usize)
-    requires { i < length list.old }
-    ensures { take (length list.old - 1) list.new ≡ remove list.old i }
-{
-    for j in i..list.len() - 1 {
-        list[j] = list[j + 1];
-    }
-}
-
 /// Removes the place at `i` from the list of `len` places from `at` on, and says how many are left.
 pub fn remove<P: Copy>(part: &mut [Place<P>], at: usize, len: usize, i: usize) -> usize
     requires len_in_bounds { at + len ≤ length part.old }
@@ -111,6 +101,7 @@ pub fn remove<P: Copy>(part: &mut [Place<P>], at: usize, len: usize, i: usize) -
     ensures fewer { result + 1 ≡ len }
     ensures between { Between at (at + len) part.old part.new }
 {
-    close_gap(&mut part[at..at + len], i);
-    len - 1
+    let mut stay = [true; 64];
+    stay[i] = false;
+    pack(part, at, len, &stay)
 }

@@ -53,7 +53,7 @@ impl Term for ByNumber {
     ghost newer = { first_of (Prim.search rules, Prim.grind (arith, Self.row.coded.inj)) };
 
     fn still(&self, stamp: Stamp, clock: Clock) -> bool {
-        (clock.posts as u64) < stamp.arrival as u64 + self.n as u64
+        clock.posts.saturating_sub(stamp.arrival) < self.n
     }
 }
 
@@ -67,6 +67,6 @@ impl Term for ByDays {
     ghost newer = { first_of (Prim.search rules, Prim.grind (arith, Self.row.coded.inj)) };
 
     fn still(&self, stamp: Stamp, clock: Clock) -> bool {
-        (clock.day as u64) < stamp.day as u64 + self.n as u64
+        clock.day.saturating_sub(stamp.day) < self.n
     }
 }
