@@ -1,11 +1,14 @@
 #!/usr/bin/env python3
 """Respells the repository's own definitions and lemmas: words in snake case, a dash only between two names.
 
-usage: python3 tools/respell.py [--list]      at the top of the checkout; run once, after the toolchain's own script
+usage: python3 tools/respell.py [--list | --every]      at the top of the checkout; run once, after the toolchain's own script
 
 A definition or lemma is what a signature of specs/ or proofs/ declares. Names that the toolchain makes (the goals that
 an answer or an invariant is for) and names of src/ stay. With --list nothing is written, and each name is printed
 beside its new spelling. Names that would fall together are refused.
+
+The library's `AllByRecursion` must not go by the name of its `All`, as the toolchain's script has it: it becomes
+`Every`. With --every only that is done.
 """
 
 import collections
@@ -41,7 +44,17 @@ def snake(name):
     return re.sub(r"(?<=[a-z0-9])([A-Z])", lambda m: "_" + m.group(1).lower(), name)
 
 
+def every():
+    for path, text in {**texts("*/specs/**/*.antt"), **texts("*/proofs/**/*.antt"), **texts("*/src/**/*.rt")}.items():
+        if "AllByRecursion as All" in text:
+            after = re.sub(r"(?<![\w'.-])All(?![\w'-])", "Every", text)
+            path.write_text(after, encoding="utf-8")
+    return 0
+
+
 def main():
+    if "--every" in sys.argv:
+        return every()
     antt = {**texts("*/specs/**/*.antt"), **texts("*/proofs/**/*.antt")}
     declared, made, words = set(), set(), set("zero suc length take drop map set append filter removed".split())
     for path, text in antt.items():
@@ -81,7 +94,7 @@ def main():
         after = whole.sub(lambda m: new.get(m.group(0), m.group(0)), text)
         if after != text:
             path.write_text(after, encoding="utf-8")
-    return 0
+    return every()
 
 
 sys.exit(main())

@@ -1,6 +1,6 @@
 -- What is left after an expiry fits where the lists did.
 use Rattle.std.proofs.Common.{ℕ, zero, suc, ◌<◌, ◌≤◌, Bool, true, false, cond, List, [], ◌∷◌, map, length, get_or, take, drop, filter, arith, length-take}
-use Rattle.std.specs.List.{AllByRecursion as All}
+use Rattle.std.specs.List.{AllByRecursion as Every}
 use Rattle.packed.specs.Lists.{cut}
 use Rattle.picking.specs.Trials.{no_row}
 use Rattle.row.specs.Seen.{Within, entries, firsts_at, judged, latests_at, seen_row, seen_rows}
@@ -44,7 +44,7 @@ row_fits {P} counts m d s row xs w =
 
 pub expired_fits : {P : Type 0} (counts : Rule) (m d : ℕ) (s : Settings) (n : ℕ) (rows : List Row) (xs : List (Place P))
     → ((j : ℕ) → j < n → Within s (get_or rows j no_row))
-    → All (RowFits (judged s)) (map (expire counts m d) (seen_rows s (take n rows) xs))
+    → Every (RowFits (judged s)) (map (expire counts m d) (seen_rows s (take n rows) xs))
 expired_fits counts m d s zero rows xs w = tt
 expired_fits counts m d s (suc n) [] xs w = tt
 expired_fits counts m d s (suc n) (r ∷ rows) xs w = (

@@ -1,6 +1,6 @@
 -- One radius more is changed.
 use Rattle.std.proofs.Common.{◌≡◌, ℕ, ◌+◌, ◌*◌, ◌<◌, ◌≤◌, List, map, length, get_or, take, set, sym, ap, ◌∙◌, subst, add-one, arith}
-use Rattle.std.specs.List.{AllByRecursion as All}
+use Rattle.std.specs.List.{AllByRecursion as Every}
 use Rattle.std.proofs.ByRecursion.{All-get_or}
 use Rattle.std.proofs.lemmas.List.{get_or-map, get_or-take, length-map, length-take-le}
 use Rattle.packed.specs.Lists.{cut}
@@ -24,7 +24,7 @@ Changed f s n rows xs rows2 ys j =
 
 pub turn_more : {P : Type 0} (f : Settings → view.Row P → view.Row P) (s : Settings) (n j : ℕ) (v : List (view.Row P)) (rows rows2 : List Row) (xs ys : List (Place P))
     → j < n → n ≤ length rows → length v ≡ n
-    → All (RowFits (judged s)) (map (f s) v)
+    → Every (RowFits (judged s)) (map (f s) v)
     → seen_rows s (take n rows) xs ≡ partway (f s) j v
     → Changed f s n rows xs rows2 ys j
     → seen_rows s (take n rows2) ys ≡ partway (f s) (j + 1) v

@@ -9,7 +9,7 @@ ghost use Rattle.rules.specs.Promises.{Fits, RowFits, Served, story};
 ghost use Rattle.rules.specs.Runs.{Event, Opened, Post, Reached, Turn};
 ghost use Rattle.rules.specs.Words.{after};
 ghost use Rattle.rules.specs.declared.place.Place.{Place};
-ghost use Rattle.std.specs.List.{AllByRecursion as All};
+ghost use Rattle.std.specs.List.{AllByRecursion as Every};
 ghost use Rattle.book.specs.Seen.{Surplus, seen};
 
 use crate::open::Book;

@@ -6,7 +6,7 @@ ghost use Rattle.picking.specs.Trials.{no_row};
 ghost use Rattle.row.specs.Seen.{Within, judged, seen_row, seen_rows};
 ghost use Rattle.rules.specs.Limits.{part_size};
 ghost use Rattle.rules.specs.Promises.{RowFits};
-ghost use Rattle.std.specs.List.{AllByRecursion as All};
+ghost use Rattle.std.specs.List.{AllByRecursion as Every};
 
 use crate::open::Book;
 use row::Change;
@@ -36,7 +36,7 @@ impl<P: Copy> Book<P> {
     /// Changes every radius.
     pub(crate) fn change_rows<C: Change<P>>(&mut self, places: &mut [Place<P>], change: &C)
         requires long { self.old.count * part_size (judged self.old.settings) ≤ length places.old }
-        ensures seen { All (RowFits (judged self.old.settings)) (map (C.Change.does change.now self.old.settings) (seen_rows self.old.settings (take self.old.count self.old.rows) places.old)) → seen_rows self.old.settings (take self.old.count self.new.rows) places.new ≡ map (C.Change.does change.now self.old.settings) (seen_rows self.old.settings (take self.old.count self.old.rows) places.old) }
+        ensures seen { Every (RowFits (judged self.old.settings)) (map (C.Change.does change.now self.old.settings) (seen_rows self.old.settings (take self.old.count self.old.rows) places.old)) → seen_rows self.old.settings (take self.old.count self.new.rows) places.new ≡ map (C.Change.does change.now self.old.settings) (seen_rows self.old.settings (take self.old.count self.old.rows) places.old) }
         ensures settings { self.new.settings ≡ self.old.settings }
         ensures count { self.new.count ≡ self.old.count }
         ensures posts { self.new.posts ≡ self.old.posts }

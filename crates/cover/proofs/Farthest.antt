@@ -1,6 +1,6 @@
 -- Farthest-first: what holds of the centres while they are chosen, and at the end.
 use Rattle.std.proofs.Common.{◌≡◌, ℕ, zero, suc, ◌+◌, ◌≤◌, ◌⊎◌, List, [], ◌∷◌, ◌++◌, length, get_or, subst, inl, inr, arith}
-use Rattle.std.specs.List.{ContainsAt as Has, AllByRecursion as All}
+use Rattle.std.specs.List.{ContainsAt as Has, AllByRecursion as Every}
 use Rattle.std.proofs.ByRecursion.{All-weaker, All-push, all-has, has_get_or}
 use Rattle.std.proofs.lemmas.List.{length_push}
 use Rattle.std.proofs.lemmas.Bool.Decides.{eqb_tells}
@@ -19,7 +19,7 @@ spaced_less dist d e h (x ∷ xs) s = (
 )
 
 pub spaced_push : {P : Type 0} (dist : Distance P) (e : ℕ) (xs : List P) (y : P) → Spaced dist e xs
-    → All (λ x. e ≤ dist x y) xs → Spaced dist e (xs ++ (y ∷ []))
+    → Every (λ x. e ≤ dist x y) xs → Spaced dist e (xs ++ (y ∷ []))
 spaced_push dist e [] y s h = (tt, tt)
 spaced_push dist e (x ∷ xs) y s h =
     (All-push (λ z. e ≤ dist x z) xs y s.0 h.0, spaced_push dist e xs y s.1 h.1)
@@ -27,7 +27,7 @@ spaced_push dist e (x ∷ xs) y s h =
 -- The centres c ∷ cs, chosen from xs so far: they are as far apart as they reach.
 record Going {P : Type 0} (dist : Distance P) (xs cs : List P) : Type 0 where
   some : 1 ≤ length cs
-  members : All (Has xs) cs
+  members : Every (Has xs) cs
   spaced : Spaced dist (reach dist cs xs) cs
 
 module _ {P : Type 0} (dist : Distance P) (m : Metric dist) (x : P) (xs : List P) (full : 1 ≤ length xs) where
@@ -45,7 +45,7 @@ module _ {P : Type 0} (dist : Distance P) (m : Metric dist) (x : P) (xs : List P
   next_spaced (c ∷ cs) g =
       let e = (greatest_place (nearest dist (c ∷ cs)) xs x full).1 in
       spaced_push dist (reach dist (c ∷ cs) xs) (c ∷ cs) (next (c ∷ cs)) g.spaced
-      (subst (λ n. All (λ d. n ≤ dist d (next (c ∷ cs))) (c ∷ cs)) e (nearest-least dist c cs (next (c ∷ cs))))
+      (subst (λ n. Every (λ d. n ≤ dist d (next (c ∷ cs))) (c ∷ cs)) e (nearest-least dist c cs (next (c ∷ cs))))
 
   going_more : (cs : List P) → Going dist xs cs → Going dist xs (cs ++ (next cs ∷ []))
   going_more [] g = absurd (omega (arith, g.some))

@@ -1,6 +1,6 @@
 -- The nearest of a list, and the greatest value over one.
 use Rattle.std.proofs.Common.{◌≡◌, ℕ, suc, ◌<◌, ◌≤◌, List, [], ◌∷◌, ◌++◌, length, get_or, inl, inr, arith}
-use Rattle.std.specs.List.{AllByRecursion as All}
+use Rattle.std.specs.List.{AllByRecursion as Every}
 use Rattle.std.proofs.lemmas.Bool.Decides.{leb_tells}
 use Rattle.std.proofs.lemmas.Bool.{cases_lt}
 use Rattle.cover.specs.Choices.{nearest, greatest, greatest_at, reach}
@@ -18,12 +18,12 @@ module _ {P : Type 0} (dist : Distance P) where
   nearest_near c (d ∷ ds) x r h = elim h
       [ inl near ↦ omega arith | inr near ↦ omega (arith, nearest_near d ds x r near) ]
 
-  pub nearest-least : (c : P) (cs : List P) (x : P) → All (λ d. nearest dist (c ∷ cs) x ≤ dist d x) (c ∷ cs)
+  pub nearest-least : (c : P) (cs : List P) (x : P) → Every (λ d. nearest dist (c ∷ cs) x ≤ dist d x) (c ∷ cs)
   nearest-least c [] x = (omega arith, tt)
   nearest-least c (d ∷ ds) x = (omega arith, lower (d ∷ ds) (nearest-least d ds x))
     where
-      lower : (es : List P) → All (λ e. nearest dist (d ∷ ds) x ≤ dist e x) es
-          → All (λ e. nearest dist (c ∷ (d ∷ ds)) x ≤ dist e x) es
+      lower : (es : List P) → Every (λ e. nearest dist (d ∷ ds) x ≤ dist e x) es
+          → Every (λ e. nearest dist (c ∷ (d ∷ ds)) x ≤ dist e x) es
       lower [] h = tt
       lower (e ∷ es) h = (omega (arith, h.0), lower es h.1)
 

@@ -1,7 +1,7 @@
 -- A choice covers pieces that lie far apart only if it has one for each of them.
 use Rattle.std.proofs.Common.{ℕ, suc, ◌*◌, ◌<◌, ◌≤◌, List, [], ◌∷◌, length, inl, inr, arith}
 use native.Mathlib.Decide.{dec_le}
-use Rattle.std.specs.List.{AllByRecursion as All}
+use Rattle.std.specs.List.{AllByRecursion as Every}
 use Rattle.cover.specs.Choices.{Pigeonhole}
 use Rattle.cover.specs.Distances.{Distance, Metric, Covers, Spaced}
 
@@ -11,11 +11,11 @@ record Rest {P : Type 0} (dist : Distance P) (e r : ℕ) (cs far : List P) : Typ
   spaced : Spaced dist e rest
   covered : Covers dist r cs rest
   count : length far ≤ suc (length rest)
-  apart : (z : P) → All (λ y. e ≤ dist z y) far → All (λ y. e ≤ dist z y) rest
+  apart : (z : P) → Every (λ y. e ≤ dist z y) far → Every (λ y. e ≤ dist z y) rest
 
 module _ {P : Type 0} {dist : Distance P} (m : Metric dist) (e r : ℕ) (wide : 2 * r < e) where
   -- where c is near x, it is near none that is far from x
-  others : (c x : P) (cs ys : List P) → dist c x ≤ r → All (λ y. e ≤ dist x y) ys → Covers dist r (c ∷ cs) ys
+  others : (c x : P) (cs ys : List P) → dist c x ≤ r → Every (λ y. e ≤ dist x y) ys → Covers dist r (c ∷ cs) ys
       → Covers dist r cs ys
   others c x cs [] near far cover = tt
   others c x cs (y ∷ ys) near far cover = (

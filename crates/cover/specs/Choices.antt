@@ -1,6 +1,6 @@
 -- Choices of centres for a list of pieces: how far they reach, and the choice farthest_first_lem.
 use Rattle.std.specs.Prelude.{ℕ, zero, suc, ◌*◌, ◌<◌, ◌≤◌, min, max, true, false, cond, List, [], ◌∷◌, ◌++◌, length, ◌==◌, nat_lt, slice_index_or}
-use Rattle.std.specs.List.{ContainsAt as Has, AllByRecursion as All}
+use Rattle.std.specs.List.{ContainsAt as Has, AllByRecursion as Every}
 use Rattle.cover.specs.Distances.{Distance, Metric, Covers, Spaced}
 
 -- one to k pieces
@@ -50,7 +50,7 @@ Pigeonhole P =
 pub record Good {P : Type 0} (dist : Distance P) (k : ℕ) (xs cs : List P) : Type 0 where
   pub some : 1 ≤ length cs
   pub few : length cs ≤ k
-  pub members : All (Has xs) cs
+  pub members : Every (Has xs) cs
   pub covered : Covers dist (reach dist cs xs) cs xs
   pub best : (choice : List P) (r : ℕ) → length choice ≤ k → Covers dist r choice xs → reach dist cs xs ≤ 2 * r
 

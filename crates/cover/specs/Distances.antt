@@ -1,6 +1,6 @@
 -- Distances between pieces of any kind, and lists of pieces that lie near one another or far apart.
 use Rattle.std.specs.Prelude.{◌≡◌, ℕ, ◌+◌, ◌≤◌, ◌⊎◌, List, [], ◌∷◌}
-use Rattle.std.specs.List.{AllByRecursion as All}
+use Rattle.std.specs.List.{AllByRecursion as Every}
 use Rattle.tape.specs.Limits.{limit}
 
 -- a distance between pieces
@@ -21,9 +21,9 @@ Near dist r (c ∷ cs) x = (dist c x ≤ r) ⊎ Near dist r cs x
 
 -- each of xs is within r of one of the choice
 abbrev pub Covers : {P : Type 0} → Distance P → ℕ → List P → List P → Type 0
-Covers dist r choice xs = All (Near dist r choice) xs
+Covers dist r choice xs = Every (Near dist r choice) xs
 
 -- each two of the list are at least e apart
 abbrev pub Spaced : {P : Type 0} → Distance P → ℕ → List P → Type 0
 Spaced dist e [] = Unit {0}
-Spaced dist e (x ∷ xs) = All (λ y. e ≤ dist x y) xs × Spaced dist e xs
+Spaced dist e (x ∷ xs) = Every (λ y. e ≤ dist x y) xs × Spaced dist e xs

@@ -1,6 +1,6 @@
 -- The trial over the representatives of one radius.
 use Rattle.std.proofs.Common.{◌≡◌, ℕ, ◌+◌, ◌<◌, ◌≤◌, Bool, true, false, cond, ◌||◌, leb, List, [], ◌∷◌, ◌++◌, length, get_or, take, drop, set, sym, refl, ap, ◌∙◌, subst, append_assoc, append-nil, arith, length-append, length-set}
-use Rattle.std.specs.List.{AllByRecursion as All}
+use Rattle.std.specs.List.{AllByRecursion as Every}
 use Rattle.std.proofs.ByRecursion.{All-push}
 use Rattle.std.proofs.lemmas.List.{at_drop_all, at_drop_more, drop_more, length_push, length-take-le, take_more_set}
 use Rattle.std.proofs.lemmas.Bool.{le-leb, lt-leb}
@@ -19,7 +19,7 @@ gathered_push [] i xs = append-nil (cut i 1 xs)
 gathered_push (j ∷ js) i xs =
     ap (λ ys. cut j 1 xs ++ ys) (gathered_push js i xs) ∙ sym (append_assoc (cut j 1 xs) (gathered js xs) (cut i 1 xs))
 
-length-gathered : {X : Type 0} (is : List ℕ) (xs : List X) → All (λ i. i < length xs) is → length (gathered is xs) ≡ length is
+length-gathered : {X : Type 0} (is : List ℕ) (xs : List X) → Every (λ i. i < length xs) is → length (gathered is xs) ≡ length is
 length-gathered [] xs h = refl
 length-gathered (i ∷ is) [] h = let low = h.0 in let z : ⊥ = omega arith in absurd z
 length-gathered (i ∷ is) (x ∷ xs) h =
@@ -65,7 +65,7 @@ module _ {P : Type 0} (dist : Distance P) (r : ℕ) where
   -- at most k, are the first `count` of `chosen`.
   pub record Trying (k : ℕ) (xs : List (Place P)) (chosen : List ℕ) (count i : ℕ) : Type 0 where
     pub model : choose dist r (gathered (take count chosen) xs) (drop i xs) ≡ choose dist r [] xs
-    pub inside : All (λ n. n < length xs) (take count chosen)
+    pub inside : Every (λ n. n < length xs) (take count chosen)
     pub few : count ≤ k
     pub room : length chosen ≡ 12
 
@@ -100,7 +100,7 @@ module _ {P : Type 0} (dist : Distance P) (r : ℕ) where
             ap (λ js. choose dist r (gathered js xs) (drop (i + 1) xs)) front
             ∙ ap (λ cs. choose dist r cs (drop (i + 1) xs)) (gathered_push (take count chosen) i xs ∙ ap (λ ys. gathered (take count chosen) xs ++ ys) (cut_one xs i x h is))
             ∙ trying_step k xs chosen count i x false t h is e;
-        inside = subst (All (λ n. n < length xs)) (sym front) (All-push (λ n. n < length xs) (take count chosen) i t.inside h);
+        inside = subst (Every (λ n. n < length xs)) (sym front) (All-push (λ n. n < length xs) (take count chosen) i t.inside h);
         few = omega arith;
         room = length-set chosen count i ∙ room;
       }

@@ -5,7 +5,7 @@ ghost use Rattle.picking.specs.Trials.{first_passing, gathered, no_row};
 ghost use Rattle.row.specs.Seen.{Within, judged, seen_rows};
 ghost use Rattle.rules.specs.Limits.{greatest_radius, part_size};
 ghost use Rattle.rules.specs.Picking.{any_within};
-ghost use Rattle.std.specs.List.{AllByRecursion as All};
+ghost use Rattle.std.specs.List.{AllByRecursion as Every};
 
 use row::{Row, Settings};
 use rules::Place;
@@ -19,7 +19,7 @@ fn any_within<P, T: Tape<P>>(
     radius: u32,
     tape: &T,
 ) -> bool
-    requires { All (λ i. i < length list.now) chosen.now }
+    requires { Every (λ i. i < length list.now) chosen.now }
     ensures { result ≡ any_within (T.Tape.dist tape.now) radius (gathered chosen.now list.now) place.now }
 {
     for at in chosen {

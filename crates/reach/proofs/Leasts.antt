@@ -1,12 +1,12 @@
 -- The least number that covers what passes a test, one element at a time.
 use Rattle.std.proofs.Common.{◌≡◌, ℕ, ◌+◌, ◌<◌, ◌≤◌, max, Bool, true, false, List, length, get_or, take, sym, subst, arith}
-use Rattle.std.specs.List.{AllByRecursion as All}
+use Rattle.std.specs.List.{AllByRecursion as Every}
 use Rattle.std.proofs.ByRecursion.{All-get_or, All-more, All-take, All-weaker}
 use Rattle.std.proofs.lemmas.List.{get_or-take, length-take-le, take_all, take-take}
 
 -- each that passes is at most r
 abbrev pub Within : {X : Type 0} → (X → Bool) → (X → ℕ) → ℕ → List X → Type 0
-Within test size r xs = All (λ x. test x ≡ true → size x ≤ r) xs
+Within test size r xs = Every (λ x. test x ≡ true → size x ≤ r) xs
 
 abbrev pub Least : {X : Type 0} → (X → Bool) → (X → ℕ) → ℕ → List X → Type 0
 Least test size r xs = Within test size r xs × ((m : ℕ) → Within test size m xs → r ≤ m)

@@ -1,6 +1,6 @@
 -- An attractor takes the new piece: its representative becomes the piece, and the invariant holds with one post more.
 use Rattle.std.proofs.Common.{◌≡◌, ℕ, suc, ◌*◌, ◌<◌, ◌≤◌, Bool, true, false, eqb, List, [], ◌∷◌, ◌++◌, length, Some, sym, refl, ap, ◌∙◌, subst, inl, inr, arith}
-use Rattle.std.specs.List.{AllZip, AllByRecursion as All}
+use Rattle.std.specs.List.{AllZip, AllByRecursion as Every}
 use Rattle.std.proofs.ByRecursion.{All-weaker}
 use Rattle.std.proofs.lemmas.Bool.{leb-true, eqb-true, eq-eqb, ne_eqb}
 use Rattle.term.specs.Formulas.{Rule}
@@ -76,8 +76,8 @@ module _ {P : Type 0} (dist : Distance P) {counts : Rule} (law : Lawful counts) 
         ]
 
     orphans_fail : (orphans : List (Place P)) → (vs : List (Place P))
-        → All (λ w. All (λ y. y.attractor < w.arrival) orphans) vs
-        → Any (λ w. (w ≡ v) × (within dist (2 * g) w x ≡ true)) vs → All (λ y. own_of v y ≡ false) orphans
+        → Every (λ w. Every (λ y. y.attractor < w.arrival) orphans) vs
+        → Any (λ w. (w ≡ v) × (within dist (2 * g) w x ≡ true)) vs → Every (λ y. own_of v y ≡ false) orphans
     orphans_fail orphans [] b a = elim a [ ]
     orphans_fail orphans (w ∷ vs) b a =
         elim a [

@@ -1,6 +1,6 @@
 -- The first of a list that passes a test, that one changed, and the first of the least.
 use Rattle.std.proofs.Common.{◌≡◌, ℕ, suc, ◌≤◌, Bool, true, false, cond, leb, ◌⊎◌, List, [], ◌∷◌, ◌++◌, length, Some, None, sym, refl, ap, subst, inl, inr, arith}
-use Rattle.std.specs.List.{AllZip, AllByRecursion as All}
+use Rattle.std.specs.List.{AllZip, AllByRecursion as Every}
 use Rattle.std.proofs.lemmas.Bool.{cases_Bool}
 use Rattle.std.proofs.ByRecursion.{All-weaker}
 use Rattle.std.proofs.lemmas.Bool.Decides.{leb_tells}
@@ -8,7 +8,7 @@ use Rattle.rules.specs.Words.{Any, first_of, change_first, least}
 
 module _ {X : Type 0} where
   -- the first that passes is one of them, and passes
-  pub first_is : (test : X → Bool) (Q : X → Type 0) (xs : List X) (x : X) → All Q xs → first_of test xs ≡ Some x
+  pub first_is : (test : X → Bool) (Q : X → Type 0) (xs : List X) (x : X) → Every Q xs → first_of test xs ≡ Some x
       → Q x × (test x ≡ true)
   first_is test Q [] x q e = let z : ◌≡◌ {A = ℕ} 0 1 = cc in absurd (omega arith)
   first_is test Q (y ∷ ys) x q e =
@@ -26,7 +26,7 @@ module _ {X : Type 0} where
         | inr t ↦ inr (first_any test C ys x (rw t at e) c)
       ]
 
-  pub none_passes : (test : X → Bool) (xs : List X) → first_of test xs ≡ None → All (λ x. test x ≡ false) xs
+  pub none_passes : (test : X → Bool) (xs : List X) → first_of test xs ≡ None → Every (λ x. test x ≡ false) xs
   none_passes test [] e = tt
   none_passes test (x ∷ xs) e =
       elim (cases_Bool (test x)) [
@@ -35,8 +35,8 @@ module _ {X : Type 0} where
       ]
 
   module _ (test : X → Bool) (change : X → X) where
-    pub all_changed : (Q : X → Type 0) → ((x : X) → Q x → test x ≡ true → Q (change x)) → (xs : List X) → All Q xs
-        → All Q (change_first test change xs)
+    pub all_changed : (Q : X → Type 0) → ((x : X) → Q x → test x ≡ true → Q (change x)) → (xs : List X) → Every Q xs
+        → Every Q (change_first test change xs)
     all_changed Q f [] q = tt
     all_changed Q f (x ∷ xs) q =
         elim (cases_Bool (test x))
@@ -48,13 +48,13 @@ module _ {X : Type 0} where
         [ inl e ↦ rw e refl | inr e ↦ rw e (ap suc (length_changed xs)) ]
 
     -- where none of the front passes, the change is behind it
-    pub changed_past : (xs ys : List X) → All (λ x. test x ≡ false) xs
+    pub changed_past : (xs ys : List X) → Every (λ x. test x ≡ false) xs
         → change_first test change (xs ++ ys) ≡ xs ++ change_first test change ys
     changed_past [] ys h = refl
     changed_past (x ∷ xs) ys h = rw h.0 (ap (λ zs. x ∷ zs) (changed_past xs ys h.1))
 
     pub each_changed : (W : X → Type 0) (R : X → X → Type 0) → ((w x : X) → W w → R w x → R w (change x))
-        → (ws xs : List X) → All W ws → AllZip R ws xs → AllZip R ws (change_first test change xs)
+        → (ws xs : List X) → Every W ws → AllZip R ws xs → AllZip R ws (change_first test change xs)
     each_changed W R f [] [] w r = tt
     each_changed W R f [] (x ∷ xs) w r = elim r [ ]
     each_changed W R f (v ∷ ws) [] w r = elim r [ ]
@@ -104,19 +104,19 @@ module _ {X : Type 0} where
         elim (cases_Bool (leb (n x) (n (least n y ys).0)))
         [ inl e ↦ rw e refl | inr e ↦ rw e (ap suc (least-length y ys)) ]
 
-    pub least-all : (Q : X → Type 0) (x : X) (xs : List X) → All Q (x ∷ xs)
-        → Q (least n x xs).0 × All Q (least n x xs).1
+    pub least-all : (Q : X → Type 0) (x : X) (xs : List X) → Every Q (x ∷ xs)
+        → Q (least n x xs).0 × Every Q (least n x xs).1
     least-all Q x [] q = (q.0, tt)
     least-all Q x (y ∷ ys) q =
         let ih = least-all Q y ys q.1 in
         elim (cases_Bool (leb (n x) (n (least n y ys).0)))
         [ inl e ↦ rw e (q.0, q.1) | inr e ↦ rw e (ih.0, (q.0, ih.1)) ]
 
-    pub least-low : (x : X) (xs : List X) → All (λ y. n (least n x xs).0 ≤ n y) (x ∷ xs)
+    pub least-low : (x : X) (xs : List X) → Every (λ y. n (least n x xs).0 ≤ n y) (x ∷ xs)
     least-low x [] = (omega arith, tt)
     least-low x (y ∷ ys) =
         let g = least n y ys in
-        let T : Bool → Type 0 = λ b. All (λ z. n (cond {A = X × List X} b (x, y ∷ ys) (g.0, x ∷ g.1)).0 ≤ n z)
+        let T : Bool → Type 0 = λ b. Every (λ z. n (cond {A = X × List X} b (x, y ∷ ys) (g.0, x ∷ g.1)).0 ≤ n z)
         (x ∷ (y ∷ ys)) in
         elim (leb_tells (n x) (n g.0)) [
           | inl t ↦ subst T (sym t.0) (
@@ -127,7 +127,7 @@ module _ {X : Type 0} where
           | inr t ↦ subst T (sym t.0) (omega (arith, t.1), least-low y ys)
         ]
 
-    pub least-least : (x : X) (xs : List X) → All (λ y. n (least n x xs).0 ≤ n y) (least n x xs).1
+    pub least-least : (x : X) (xs : List X) → Every (λ y. n (least n x xs).0 ≤ n y) (least n x xs).1
     least-least x xs = (least-all (λ y. n (least n x xs).0 ≤ n y) x xs (least-low x xs)).1
 
     pub least_any : (C : X → Type 0) (x : X) (xs : List X) → Any C (x ∷ xs)

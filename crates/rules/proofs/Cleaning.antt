@@ -1,6 +1,6 @@
 -- The clean-up: with k + 1 attractors, what is older than the oldest of them does not matter and is removed.
 use Rattle.std.proofs.Common.{◌≡◌, ℕ, suc, ◌<◌, ◌≤◌, true, leb, List, [], ◌∷◌, length, filter, Option, sym, subst, inl, inr, le_refl, arith}
-use Rattle.std.specs.List.{AllByRecursion as All}
+use Rattle.std.specs.List.{AllByRecursion as Every}
 use Rattle.std.proofs.ByRecursion.{All-weaker}
 use Rattle.std.proofs.lemmas.Bool.{leb-true, le-leb}
 use Rattle.std.proofs.lemmas.Bool.Decides.{eqb_tells}
@@ -27,11 +27,11 @@ oldest-least : {P : Type 0} (att : List (Place P)) (a : ℕ) → Rising att → 
 oldest-least [] a r some = elim some [ ]
 oldest-least {P} (v ∷ vs) a r some = elim some [ inl h ↦ h | inr h ↦ go vs r.0 h ]
   where
-    go : (ws : List (Place P)) → All (λ w. v.arrival < w.arrival) ws → Any (λ w. w.arrival ≤ a) ws → v.arrival ≤ a
+    go : (ws : List (Place P)) → Every (λ w. v.arrival < w.arrival) ws → Any (λ w. w.arrival ≤ a) ws → v.arrival ≤ a
     go [] q h = elim h [ ]
     go (w ∷ ws) q h = elim h [ inl k ↦ omega (arith, q.0) | inr k ↦ go ws q.1 k ]
 
-oldest-passes : {P : Type 0} (att : List (Place P)) → Rising att → All (λ v. leb (oldest att) v.arrival ≡ true) att
+oldest-passes : {P : Type 0} (att : List (Place P)) → Rising att → Every (λ v. leb (oldest att) v.arrival ≡ true) att
 oldest-passes [] r = tt
 oldest-passes (v ∷ vs) r = (
   le-leb v.arrival v.arrival (le_refl v.arrival),

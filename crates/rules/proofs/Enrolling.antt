@@ -1,6 +1,6 @@
 -- The new piece becomes an attractor. The oldest of k + 1 goes before it.
 use Rattle.std.proofs.Common.{◌≡◌, ℕ, suc, ◌*◌, ◌<◌, ◌≤◌, true, false, ◌⊎◌, List, [], ◌∷◌, ◌++◌, length, Option, sym, refl, ap, ◌∙◌, subst, inl, inr, le_refl, arith}
-use Rattle.std.specs.List.{AllByRecursion as All}
+use Rattle.std.specs.List.{AllByRecursion as Every}
 use Rattle.std.proofs.lemmas.List.Elements.{AllZip-push}
 use Rattle.std.proofs.ByRecursion.{All-weaker, All-push}
 use Rattle.std.proofs.lemmas.List.{append_assoc, length_push}
@@ -24,16 +24,16 @@ use Rattle.rules.proofs.Cleaning.{rising_of, Settled, cleaned}
 module _ {P : Type 0} (dist : Distance P) (metric : Metric dist) {counts : Rule} (law : Lawful counts)
     (h : List (P × ℕ)) (x : Place P) (next : x.arrival ≡ suc (length h)) (k g : ℕ) where
   -- one more attractor, where there are at most k
-  appended : (t : ℕ) (att rep : List (Place P)) → All (Living counts h x.arrival x.day) att
-      → Pairwise (Ahead dist g) att → length att ≤ k → All (λ v. within dist (2 * g) v x ≡ false) att
-      → All (Tied dist counts g h x.arrival x.day) rep → Split k t att rep
+  appended : (t : ℕ) (att rep : List (Place P)) → Every (Living counts h x.arrival x.day) att
+      → Pairwise (Ahead dist g) att → length att ≤ k → Every (λ v. within dist (2 * g) v x ≡ false) att
+      → Every (Tied dist counts g h x.arrival x.day) rep → Split k t att rep
       → ((q : P) (a d : ℕ) → Arrived a q d h → counts a d x.arrival x.day ≡ true → Relevant k
       (att ++ (x ∷ [])) a → Any (Serves dist g h q a) rep)
       → Coarse dist counts k g t (grown h x) x.arrival x.day (att ++ (x ∷ []))
       (rep ++ (standing_for x.arrival x ∷ []))
   appended t att rep living apart few far tied split cover =
       let own = (all_parts (Tied dist counts g h x.arrival x.day) split.orphans split.own
-      (subst (All (Tied dist counts g h x.arrival x.day)) split.is tied)).0 in
+      (subst (Every (Tied dist counts g h x.arrival x.day)) split.is tied)).0 in
       let none : newer x.arrival split.orphans ≡ 0 =
       newer_none x.arrival split.orphans
       (All-weaker (Tied dist counts g h x.arrival x.day) (λ y. y.arrival < x.arrival)
@@ -69,7 +69,7 @@ module _ {P : Type 0} (dist : Distance P) (metric : Metric dist) {counts : Rule}
           parts = record {
             few_at = few_at_last k 0 split.orphans att x split.parts.few_at (omega arith);
             below =
-                All-push (λ v. All (λ y. y.attractor < v.arrival) split.orphans) att x split.parts.below
+                All-push (λ v. Every (λ y. y.attractor < v.arrival) split.orphans) att x split.parts.below
                 (All-weaker (Tied dist counts g h x.arrival x.day) (λ y. y.attractor < x.arrival)
                 (λ y l. omega (arith, arrived_low l.1.2)) split.orphans own);
             owned = AllZip-push Own att split.own x (standing_for x.arrival x) split.parts.owned
@@ -130,7 +130,7 @@ module _ {P : Type 0} (dist : Distance P) (metric : Metric dist) {counts : Rule}
     (h : List (P × ℕ)) (x : Place P) (next : x.arrival ≡ suc (length h)) (k limit s : ℕ) (row : Row P) where
   -- with at most k attractors
   enrolled_small : length row.attractors ≤ k
-      → All (λ v. within dist (2 * row.radius) v x ≡ false) row.attractors
+      → Every (λ v. within dist (2 * row.radius) v x ≡ false) row.attractors
       → Coarse dist counts k row.radius 0 h x.arrival x.day row.attractors row.representatives
       → Fine dist counts k limit s h x.arrival x.day row.attractors row.fine row.lost
       → Settled dist counts k limit s h x (clean_up k (enrol k x row))
@@ -145,7 +145,7 @@ module _ {P : Type 0} (dist : Distance P) (metric : Metric dist) {counts : Rule}
 
   -- with k + 1: the oldest goes
   enrolled_full : (w : Place P) (vs : List (Place P)) → length vs ≡ k → row.attractors ≡ w ∷ vs
-      → All (λ v. within dist (2 * row.radius) v x ≡ false) (w ∷ vs)
+      → Every (λ v. within dist (2 * row.radius) v x ≡ false) (w ∷ vs)
       → Coarse dist counts k row.radius 0 h x.arrival x.day (w ∷ vs) row.representatives
       → Fine dist counts k limit s h x.arrival x.day (w ∷ vs) row.fine row.lost
       → Settled dist counts k limit s h x (clean_up k (enrol k x row))
@@ -169,19 +169,19 @@ module _ {P : Type 0} (dist : Distance P) (metric : Metric dist) {counts : Rule}
                 [ inl old ↦ inr (inr old) | inr new ↦ absurd (omega arith) ]
           ]
 
-      low : (us : List (Place P)) → All (Ahead dist row.radius w) us → w.arrival ≤ oldest (us ++ (x ∷ []))
+      low : (us : List (Place P)) → Every (Ahead dist row.radius w) us → w.arrival ≤ oldest (us ++ (x ∷ []))
       low [] a = omega (arith, arrived_low c.living.0.0)
       low (u ∷ us) a = omega (arith, a.0.0)
 
   pub enrolled_by : (att : List (Place P)) → row.attractors ≡ att
-      → All (λ v. within dist (2 * row.radius) v x ≡ false) att
+      → Every (λ v. within dist (2 * row.radius) v x ≡ false) att
       → Coarse dist counts k row.radius 0 h x.arrival x.day att row.representatives
       → Fine dist counts k limit s h x.arrival x.day att row.fine row.lost
       → (length att ≤ k) ⊎ (length att ≡ suc k)
       → Settled dist counts k limit s h x (clean_up k (enrol k x row))
   enrolled_by att is far c f (inl few) =
       enrolled_small (subst (λ ys. length ys ≤ k) (sym is) few)
-      (subst (All (λ v. within dist (2 * row.radius) v x ≡ false)) (sym is) far)
+      (subst (Every (λ v. within dist (2 * row.radius) v x ≡ false)) (sym is) far)
       (subst (λ ys. Coarse dist counts k row.radius 0 h x.arrival x.day ys row.representatives)
       (sym is) c)
       (subst (λ ys. Fine dist counts k limit s h x.arrival x.day ys row.fine row.lost) (sym is) f)

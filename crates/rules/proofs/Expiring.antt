@@ -1,6 +1,6 @@
 -- Time passes: what no longer counts is removed, and the invariant holds at the new time.
 use Rattle.std.proofs.Common.{◌≡◌, ℕ, ◌<◌, ◌≤◌, Bool, true, false, List, length, Some, None, filter, Option, inl, inr, arith}
-use Rattle.std.specs.List.{AllByRecursion as All}
+use Rattle.std.specs.List.{AllByRecursion as Every}
 use Rattle.std.proofs.ByRecursion.{All-weaker}
 use Rattle.std.proofs.lemmas.Bool.{cases_lt, both_ways}
 use Rattle.cover.specs.Distances.{Distance}
@@ -24,7 +24,7 @@ marked_kept h fine f (Some mark) k = (k.0, all_kept (λ e. mark.arrival ≤ e.la
 module _ {P : Type 0} (dist : Distance P) {counts : Rule} (law : Lawful counts) (h : List (P × ℕ)) (m n m2 n2 : ℕ)
     (old : Dated h m n) (new : Dated h m2 n2) (le : m ≤ m2) (le2 : n ≤ n2) where
   -- what matters now mattered before: if an attractor went, it was no newer than what counts
-  relevant_before : (k : ℕ) (att : List (Place P)) → All (Living counts h m n) att → {a : ℕ} {q : P} {d : ℕ}
+  relevant_before : (k : ℕ) (att : List (Place P)) → Every (Living counts h m n) att → {a : ℕ} {q : P} {d : ℕ}
       → Arrived a q d h → counts a d m2 n2 ≡ true → Relevant k (filter (alive counts m2 n2) att) a → Relevant k att a
   relevant_before k att living {a} r c rel =
       elim rel [
@@ -65,7 +65,7 @@ module _ {P : Type 0} (dist : Distance P) {counts : Rule} (law : Lawful counts) 
   }
 
   pub fine-expired : (k limit s : ℕ) (att : List (Place P)) (fine : List (Entry P)) (lost : Option Stamp)
-      → All (Living counts h m n) att → Fine dist counts k limit s h m n att fine lost
+      → Every (Living counts h m n) att → Fine dist counts k limit s h m n att fine lost
       → Fine dist counts k limit s h m2 n2 (filter (alive counts m2 n2) att)
       (filter (λ e. alive counts m2 n2 e.latest) fine) lost
   fine-expired k limit s att fine lost living z = record {

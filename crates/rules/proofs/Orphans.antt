@@ -1,7 +1,7 @@
 -- Representatives are orphans, whose attractors are gone, and then one of its own for each attractor, in order.
 -- Few orphans are newer than an attractor, so that few are left when it goes.
 use Rattle.std.proofs.Common.{◌≡◌, ℕ, suc, ◌+◌, ◌<◌, ◌≤◌, Bool, true, false, cond, leb, List, [], ◌∷◌, ◌++◌, length, filter, sym, refl, ap, ◌∙◌, subst, inl, inr, arith}
-use Rattle.std.specs.List.{AllZip, AllByRecursion as All}
+use Rattle.std.specs.List.{AllZip, AllByRecursion as Every}
 use Rattle.std.proofs.lemmas.List.Elements.{filter-append}
 use Rattle.std.proofs.ByRecursion.{All-weaker, All-push}
 use Rattle.std.proofs.lemmas.List.{append_assoc}
@@ -29,7 +29,7 @@ Rising xs = Pairwise (λ v w. v.arrival < w.arrival) xs
 
 pub record Parts {P : Type 0} (k : ℕ) (orphans att own : List (Place P)) : Type 0 where
   pub few_at : FewAt k 0 orphans att
-  pub below : All (λ v. All (λ x. x.attractor < v.arrival) orphans) att
+  pub below : Every (λ v. Every (λ x. x.attractor < v.arrival) orphans) att
   pub owned : AllZip Own att own
 
 -- of the orphans as new as t there are few; with t = 0 of all
@@ -51,7 +51,7 @@ module _ {P : Type 0} where
       [ inl e ↦ rw e (omega arith) | inr e ↦ rw e (omega arith) ]
   newer_push t (y ∷ ys) x = omega (arith, newer_push t ys x)
 
-  pub newer_none : (t : ℕ) (xs : List (Place P)) → All (λ x. x.arrival < t) xs → newer t xs ≡ 0
+  pub newer_none : (t : ℕ) (xs : List (Place P)) → Every (λ x. x.arrival < t) xs → newer t xs ≡ 0
   newer_none t [] h = refl
   newer_none t (x ∷ xs) h = elim (leb_tells t x.arrival)
       [ inl e ↦ absurd (omega (arith, e.1, h.0)) | inr e ↦ rw e.0 (omega (arith, newer_none t xs h.1)) ]
@@ -62,7 +62,7 @@ module _ {P : Type 0} where
       [ inl e ↦ rw e (omega (arith, newer_kept f t xs)) | inr e ↦ rw e (omega (arith, newer_kept f t xs)) ]
 
   -- where only what is as new as t is kept, all that is kept are few
-  newer_only : (f : Place P → Bool) (t : ℕ) (xs : List (Place P)) → All (λ x. f x ≡ true → t ≤ x.arrival) xs
+  newer_only : (f : Place P → Bool) (t : ℕ) (xs : List (Place P)) → Every (λ x. f x ≡ true → t ≤ x.arrival) xs
       → newer 0 (filter f xs) ≤ newer t xs
   newer_only f t [] h = omega arith
   newer_only f t (x ∷ xs) h =
@@ -103,9 +103,9 @@ module _ {P : Type 0} where
     owned = p.owned.1;
   }
     where
-      go : (vs : List (Place P)) → All (λ v. w.arrival < v.arrival) vs
-          → All (λ v. All (λ y. y.attractor < v.arrival) orphans) vs
-          → All (λ v. All (λ y. y.attractor < v.arrival) (orphans ++ (x ∷ []))) vs
+      go : (vs : List (Place P)) → Every (λ v. w.arrival < v.arrival) vs
+          → Every (λ v. Every (λ y. y.attractor < v.arrival) orphans) vs
+          → Every (λ v. Every (λ y. y.attractor < v.arrival) (orphans ++ (x ∷ []))) vs
       go [] r b = tt
       go (v ∷ vs) r b = (
         All-push (λ y. y.attractor < v.arrival) orphans x b.0 (omega (arith, r.0, p.owned.0.0)),
@@ -135,8 +135,8 @@ module _ {P : Type 0} where
   -- A filter that keeps whatever is newer than something it keeps.
   module _ (f : Place P → Bool) (Here : Place P → Type 0)
       (keeps : (v w : Place P) → Here v → Here w → v.arrival ≤ w.arrival → f v ≡ true → f w ≡ true) where
-    own_stays : (att own : List (Place P)) → All Here att → All Here own → AllZip Own att own
-        → All (λ v. f v ≡ true) att → All (λ x. f x ≡ true) own
+    own_stays : (att own : List (Place P)) → Every Here att → Every Here own → AllZip Own att own
+        → Every (λ v. f v ≡ true) att → Every (λ x. f x ≡ true) own
     own_stays [] [] ha ho e l = tt
     own_stays [] (x ∷ own) ha ho e l = elim e [ ]
     own_stays (v ∷ att) [] ha ho e l = elim e [ ]
@@ -145,7 +145,7 @@ module _ {P : Type 0} where
 
     -- all attractors stay
     pub split_live : (k t : ℕ) (orphans att own : List (Place P)) → newer t orphans ≤ suc k
-        → All (λ x. f x ≡ true → t ≤ x.arrival) orphans → All (λ v. f v ≡ true) att → All Here att → All Here own
+        → Every (λ x. f x ≡ true → t ≤ x.arrival) orphans → Every (λ v. f v ≡ true) att → Every Here att → Every Here own
         → Parts k orphans att own → Split k 0 att (filter f (orphans ++ own))
     split_live k t orphans att own few only live ha ho p = record {
       orphans = filter f orphans;
@@ -155,20 +155,20 @@ module _ {P : Type 0} where
       few = omega (arith, few, newer_only f t orphans only);
       parts = record {
         few_at = few_at_kept f k 0 orphans att p.few_at;
-        below = All-weaker (λ v. All (λ x. x.attractor < v.arrival) orphans)
-            (λ v. All (λ x. x.attractor < v.arrival) (filter f orphans))
+        below = All-weaker (λ v. Every (λ x. x.attractor < v.arrival) orphans)
+            (λ v. Every (λ x. x.attractor < v.arrival) (filter f orphans))
             (λ v h. all_kept (λ x. x.attractor < v.arrival) f orphans h) att p.below;
         owned = p.owned;
       };
     }
 
-    later_stay : (w : Place P) (vs : List (Place P)) → Here w → f w ≡ true → All (λ v. w.arrival < v.arrival) vs
-        → All Here vs → All (λ v. f v ≡ true) vs
+    later_stay : (w : Place P) (vs : List (Place P)) → Here w → f w ≡ true → Every (λ v. w.arrival < v.arrival) vs
+        → Every Here vs → Every (λ v. f v ≡ true) vs
     later_stay w [] hw e r h = tt
     later_stay w (v ∷ vs) hw e r h = (keeps w v hw h.0 (omega (arith, r.0)) e, later_stay w vs hw e r.1 h.1)
 
-    not_older : (w : Place P) (ys : List (Place P)) → Here w → f w ≡ false → All Here ys
-        → All (λ y. f y ≡ true → w.arrival ≤ y.arrival) ys
+    not_older : (w : Place P) (ys : List (Place P)) → Here w → f w ≡ false → Every Here ys
+        → Every (λ y. f y ≡ true → w.arrival ≤ y.arrival) ys
     not_older w [] hw e h = tt
     not_older w (y ∷ ys) hw e h = (
       (λ live. elim (cases_lt y.arrival w.arrival) [
@@ -181,14 +181,14 @@ module _ {P : Type 0} where
     )
 
     split_kept : (k t : ℕ) (orphans att own : List (Place P)) → newer t orphans ≤ suc k
-        → All (λ x. f x ≡ true → t ≤ x.arrival) orphans → Rising att → All Here att → All Here orphans → All Here own
+        → Every (λ x. f x ≡ true → t ≤ x.arrival) orphans → Rising att → Every Here att → Every Here orphans → Every Here own
         → Parts k orphans att own → Split k 0 (filter f att) (filter f (orphans ++ own))
     split_kept k t orphans [] own few only rising ha hr ho p = split_live k t orphans [] own few only tt tt ho p
     split_kept k t orphans (w ∷ att) [] few only rising ha hr ho p = elim p.owned [ ]
     split_kept k t orphans (w ∷ att) (x ∷ own) few only rising ha hr ho p =
         elim (cases_Bool (f w)) [
           | inl e ↦
-              let stay : All (λ v. f v ≡ true) (w ∷ att) = (e, later_stay w att ha.0 e rising.0 ha.1) in
+              let stay : Every (λ v. f v ≡ true) (w ∷ att) = (e, later_stay w att ha.0 e rising.0 ha.1) in
               subst (λ vs. Split k 0 vs (filter f (orphans ++ (x ∷ own)))) (sym (kept_all f (w ∷ att) stay))
               (split_live k t orphans (w ∷ att) (x ∷ own) few only stay ha ho p)
           | inr e ↦
@@ -200,10 +200,10 @@ module _ {P : Type 0} where
         ]
 
     -- attractors and representatives filtered alike
-    pub split_by : (k : ℕ) (att rep : List (Place P)) → All Here att → All Here rep → Rising att → Split k 0 att rep
+    pub split_by : (k : ℕ) (att rep : List (Place P)) → Every Here att → Every Here rep → Rising att → Split k 0 att rep
         → Split k 0 (filter f att) (filter f rep)
     split_by k att rep ha hr rising s =
-        let h = all_parts Here s.orphans s.own (subst (All Here) s.is hr) in
+        let h = all_parts Here s.orphans s.own (subst (Every Here) s.is hr) in
         subst (λ ys. Split k 0 (filter f att) (filter f ys)) (sym s.is)
         (split_kept k 0 s.orphans att s.own s.few
         (All-weaker Here (λ x. f x ≡ true → 0 ≤ x.arrival) (λ x h e. omega arith) s.orphans h.0) rising ha

@@ -1,6 +1,6 @@
 -- What a pick answers at a radius that passes: its centres cover the window, and no choice beats it by more.
 use Rattle.std.proofs.Common.{◌≡◌, ℕ, ◌+◌, ◌*◌, ◌≤◌, true, leb, List, [], ◌∷◌, ◌++◌, map, length, drop, Some, None, Option, sym, refl, subst, inl, inr, mul-le-mul_left, arith}
-use Rattle.std.specs.List.{ContainsAt as Has, AllByRecursion as All}
+use Rattle.std.specs.List.{ContainsAt as Has, AllByRecursion as Every}
 use Rattle.std.proofs.ByRecursion.{All-weaker, all-has}
 use Rattle.std.proofs.lemmas.List.{length-map, take_at}
 use Rattle.std.proofs.lemmas.Bool.{leb-true, and_parts}
@@ -53,7 +53,7 @@ near_through dist metric r t cs (x ∷ xs) q cover a =
     ]
 
 named : {P : Type 0} (counts : Rule) (t : Story P) (cs : List (Place P))
-    → All (Living counts t.posts (length t.posts) t.day) cs
+    → Every (Living counts t.posts (length t.posts) t.day) cs
     → Named counts t (map (λ x. x.arrival) cs) (pieces_of cs)
 named counts t [] l = tt
 named counts t (c ∷ cs) l = ((c.day, l.0.0, l.0.1), named counts t cs l.1)
@@ -70,7 +70,7 @@ factor : {P : Type 0} (grain : Grain) (f spread r : ℕ) (row : Row P) → sprea
 factor Fine f spread r row a b = omega (arith, mul-le-mul_left f a)
 factor Coarse f spread r row a b = omega arith
 
-pub none_all : {X : Type 0} (xs : List X) → All (λ x. ⊥) xs → xs ≡ []
+pub none_all : {X : Type 0} (xs : List X) → Every (λ x. ⊥) xs → xs ≡ []
 none_all [] a = refl
 none_all (x ∷ xs) a = absurd a.0
 
@@ -99,7 +99,7 @@ module _ {P : Type 0} (dist : Distance P) (metric : Metric dist) {counts : Rule}
 
   -- centres chosen from a list of pieces that count, each piece that counts having one that stands for it
   module _ (grain : Grain) (xs cs : List (Place P)) (good : Good (apart dist) t.settings.k xs cs)
-      (living : All (LivingNow counts t) xs) where
+      (living : Every (LivingNow counts t) xs) where
     cover_of : ((a : ℕ) (q : P) (d : ℕ) → Arrived a q d t.posts → counts a d (length t.posts) t.day ≡ true
         → Any (λ y. dist y.piece q ≤ slack grain t.settings.f taken.row) xs)
         → (answers : List ℕ) (floor : Option ℕ)
@@ -110,7 +110,7 @@ module _ {P : Type 0} (dist : Distance P) (metric : Metric dist) {counts : Rule}
           grain = grain;
         }) (map (λ y. y.arrival) cs ++ drop (length cs) answers)
     cover_of stand answers floor =
-        let those : All (LivingNow counts t) cs =
+        let those : Every (LivingNow counts t) cs =
         All-weaker (Has xs) (LivingNow counts t) (λ y h. all-has (LivingNow counts t) xs y living h) cs
         good.members in
         let front = take_at (map (λ y. y.arrival) cs) (drop (length cs) answers) (length cs)
@@ -161,8 +161,8 @@ module _ {P : Type 0} (dist : Distance P) (metric : Metric dist) {counts : Rule}
   among grain e (x ∷ xs) is answers =
       let cs = farthest_first (apart dist) t.settings.k (x ∷ xs) in
       let good = farthest_first_lem (Place P) (apart dist) (metric_apart metric) t.settings.k (x ∷ xs) some (omega arith) in
-      let living : All (LivingNow counts t) (x ∷ xs) =
-      subst (All (LivingNow counts t)) is
+      let living : Every (LivingNow counts t) (x ∷ xs) =
+      subst (Every (LivingNow counts t)) is
       (used_living dist metric law t.settings t.posts (length t.posts) t.day dated taken.row
       p.sound grain) in (
         cover_of grain (x ∷ xs) cs good living (standing grain e (x ∷ xs) is) answers taken.floor,

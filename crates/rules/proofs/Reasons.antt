@@ -1,6 +1,6 @@
 -- Why a call is refused: the first of its tests that is true.
 use Rattle.std.proofs.Common.{◌≡◌, ℕ, Bool, true, false, ◌⊎◌, List, [], ◌∷◌, Some, None, Option, Result, inl, inr, arith}
-use Rattle.std.specs.List.{AllByRecursion as All}
+use Rattle.std.specs.List.{AllByRecursion as Every}
 use Rattle.std.proofs.lemmas.Bool.{cases_Bool}
 use Rattle.refusal.specs.declared.Refusal.{Refusal}
 use Rattle.rules.specs.Promises.{why}
@@ -17,7 +17,7 @@ reason_tested (r ∷ rs) e h =
     ]
 
 -- where there is no reason, every test is false
-pub no_reason : (rs : List (Bool × Refusal)) → first_reason rs ≡ None → All (λ r. r.0 ≡ false) rs
+pub no_reason : (rs : List (Bool × Refusal)) → first_reason rs ≡ None → Every (λ r. r.0 ≡ false) rs
 no_reason [] h = tt
 no_reason (r ∷ rs) h =
     elim (cases_Bool r.0) [

@@ -1,6 +1,6 @@
 -- The new piece goes among the fine entries: one takes it, or it makes one of its own, for which one may go.
 use Rattle.std.proofs.Common.{◌≡◌, ℕ, suc, ◌<◌, ◌≤◌, Bool, true, List, [], ◌∷◌, ◌++◌, length, Some, None, Option, subst, inl, inr, arith}
-use Rattle.std.specs.List.{AllByRecursion as All}
+use Rattle.std.specs.List.{AllByRecursion as Every}
 use Rattle.std.proofs.ByRecursion.{All-weaker, All-push}
 use Rattle.std.proofs.lemmas.List.{length_push}
 use Rattle.std.proofs.lemmas.Bool.{leb-true}
@@ -28,7 +28,7 @@ abbrev alone : {P : Type 0} → Place P → Entry P
 alone x = record { first = x; latest = x }
 
 marked_grown : {P : Type 0} (h : List (P × ℕ)) (x : Place P) (fine fine2 : List (Entry P)) (lost : Option Stamp)
-    → ((n : ℕ) → n ≤ length h → All (λ e. n ≤ since e) fine → All (λ e. n ≤ since e) fine2) → Marked h fine lost
+    → ((n : ℕ) → n ≤ length h → Every (λ e. n ≤ since e) fine → Every (λ e. n ≤ since e) fine2) → Marked h fine lost
     → Marked (grown h x) fine2 lost
 marked_grown h x fine fine2 None f k = tt
 marked_grown h x fine fine2 (Some mark) f k =
@@ -36,8 +36,8 @@ marked_grown h x fine fine2 (Some mark) f k =
 
 module _ {P : Type 0} (dist : Distance P) (metric : Metric dist) {counts : Rule} (law : Lawful counts)
     (h : List (P × ℕ)) (x : Place P) (next : x.arrival ≡ suc (length h)) (k limit s : ℕ) (att : List (Place P)) where
-  close_grown : (fine : List (Entry P)) → All (Close dist counts s h x.arrival x.day) fine
-      → All (Close dist counts s (grown h x) x.arrival x.day) fine
+  close_grown : (fine : List (Entry P)) → Every (Close dist counts s h x.arrival x.day) fine
+      → Every (Close dist counts s (grown h x) x.arrival x.day) fine
   close_grown fine c =
       All-weaker (Close dist counts s h x.arrival x.day) (Close dist counts s (grown h x) x.arrival x.day)
       (λ e l. (living_grown dist counts h x x.arrival x.day e.latest l.0, l.1)) fine c

@@ -1,6 +1,6 @@
 -- A pick at any stage of a run: answered as promised, or refused as promised.
 use Rattle.std.proofs.Common.{◌≡◌, ℕ, ◌+◌, ◌≤◌, true, List, [], ◌∷◌, length, Some, None, Option, Result, sym, refl, ap, ◌∙◌, subst, inl, inr, arith}
-use Rattle.std.specs.List.{AllByRecursion as All}
+use Rattle.std.specs.List.{AllByRecursion as Every}
 use Rattle.std.proofs.lemmas.List.Elements.{length_all_zip}
 use Rattle.std.proofs.lemmas.List.{length-append}
 use Rattle.refusal.specs.declared.Refusal.{Refusal}
@@ -45,14 +45,14 @@ module _ {P : Type 0} (dist : Distance P) (metric : Metric dist) {counts : Rule}
       (s.coarse.covered q a d r c (inl few))))
 
   nothing_in_lem : (rows : List (Row P)) → 1 ≤ length rows
-      → All (Sound dist counts t.settings t.posts (length t.posts) t.day) rows → nothing_in rows ≡ true
+      → Every (Sound dist counts t.settings t.posts (length t.posts) t.day) rows → nothing_in rows ≡ true
       → window counts t ≡ []
   nothing_in_lem [] some sound e = absurd (omega arith)
   nothing_in_lem (row ∷ rows) some sound e = nothing_counts row sound.0 (empty_is row.representatives e)
 
   -- refused by a test: for want of places, for a short list, or where no piece counts
   refused_by : (rows : List (Row P)) (answers work : List ℕ) (e : Refusal) → 1 ≤ length rows
-      → All (Sound dist counts t.settings t.posts (length t.posts) t.day) rows
+      → Every (Sound dist counts t.settings t.posts (length t.posts) t.day) rows
       → Any (λ x. (x.0 ≡ true) × (x.1 ≡ e)) (pick_tests (view_of t rows) answers work) → Refused dist counts t e
   refused_by rows answers work e some sound a =
       elim a [
@@ -88,7 +88,7 @@ module _ {P : Type 0} (dist : Distance P) (metric : Metric dist) {counts : Rule}
     beyond = λ _ choice few. beats choice (reach dist choice (window counts t)) few.1
         (choice_covers dist t.settings.k choice (window counts t) few);
     nothing = λ bad. let z : ◌≡◌ {A = ℕ} 0 1 = cc in absurd (omega arith);
-    exactly = λ none. absurd (omega (arith, beats [] 0 (omega arith) (subst (All (Near dist 0 [])) (sym none) tt)));
+    exactly = λ none. absurd (omega (arith, beats [] 0 (omega arith) (subst (Every (Near dist 0 [])) (sym none) tt)));
   }
   from rows some days answers (Some taken) passed =
       among dist metric law t some days taken passed
@@ -96,7 +96,7 @@ module _ {P : Type 0} (dist : Distance P) (metric : Metric dist) {counts : Rule}
       (used (grain_by counts (length t.posts) t.day taken.row.lost) taken.row) refl answers
 
   outcome : (rows : List (Row P)) → 1 ≤ length rows → Growing None (radii_of rows)
-      → All (Sound dist counts t.settings t.posts (length t.posts) t.day) rows
+      → Every (Sound dist counts t.settings t.posts (length t.posts) t.day) rows
       → Outcome dist metric counts t.settings t.posts (length t.posts) t.day (last_of 0 (radii_of rows))
       (taken_after dist t.settings.k None rows)
   outcome [] some growing sound = absurd (omega arith)

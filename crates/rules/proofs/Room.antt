@@ -1,6 +1,6 @@
 -- Room: no list passes its part of the shelf, and with all the places that a book needs no call gives 4.
 use Rattle.std.proofs.Common.{◌≡◌, ℕ, ◌+◌, ◌≤◌, Bool, true, eqb, List, [], ◌∷◌, length, drop, Some, None, Ok, Err, Option, Result, sym, ap, ◌∙◌, subst, inl, inr, arith}
-use Rattle.std.specs.List.{AllByRecursion as All}
+use Rattle.std.specs.List.{AllByRecursion as Every}
 use Rattle.std.proofs.lemmas.List.Elements.{length_all_zip}
 use Rattle.std.proofs.ByRecursion.{All-weaker}
 use Rattle.std.proofs.lemmas.List.{length-map, length-append}
@@ -42,16 +42,16 @@ pub fits : {P : Type 0} (dist : Distance P) (counts : Rule) (t : Story P) (stage
     → Holds dist counts t stage → Fits stage
 fits dist counts t (SettingUp u) k = tt
 fits dist counts t (Opened b) k =
-    subst (λ v. All (RowFits v.settings) v.rows) (sym k.same)
+    subst (λ v. Every (RowFits v.settings) v.rows) (sym k.same)
     (All-weaker (Sound dist counts t.settings t.posts (length t.posts) t.day) (RowFits t.settings)
     (row_fits dist counts t.settings t.posts (length t.posts) t.day) k.rows k.sound)
 
 -- where no other test refuses for want of places, the first one did
-only : (x : Bool) (rest : List (Bool × Refusal)) → All (λ r. r.1 ≡ ShelfTooShort → ⊥) rest
+only : (x : Bool) (rest : List (Bool × Refusal)) → Every (λ r. r.1 ≡ ShelfTooShort → ⊥) rest
     → Any (λ r. (r.0 ≡ true) × (r.1 ≡ ShelfTooShort)) ((x, ShelfTooShort) ∷ rest) → x ≡ true
 only x rest others a = elim a [ inl h ↦ h.0 | inr h ↦ absurd (never rest others h) ]
   where
-    never : (rs : List (Bool × Refusal)) → All (λ r. r.1 ≡ ShelfTooShort → ⊥) rs
+    never : (rs : List (Bool × Refusal)) → Every (λ r. r.1 ≡ ShelfTooShort → ⊥) rs
         → Any (λ r. (r.0 ≡ true) × (r.1 ≡ ShelfTooShort)) rs → ⊥
     never [] others h = h
     never (r ∷ rs) others h = elim h [ inl k ↦ others.0 k.1 | inr k ↦ never rs others.1 k ]

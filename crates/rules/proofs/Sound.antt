@@ -1,6 +1,6 @@
 -- What is true of every radius after every call of a run: the invariant, over the posts h, at m posts and day n.
 use Rattle.std.proofs.Common.{◌≡◌, ℕ, suc, ◌*◌, ◌<◌, ◌≤◌, true, ◌⊎◌, List, length, Some, None, Option}
-use Rattle.std.specs.List.{AllByRecursion as All}
+use Rattle.std.specs.List.{AllByRecursion as Every}
 use Rattle.cover.specs.Distances.{Distance}
 use Rattle.term.specs.Formulas.{Rule}
 use Rattle.term.specs.declared.window.Stamp.{Stamp}
@@ -43,10 +43,10 @@ Relevant k att a = (length att ≤ k) ⊎ Any (λ v. v.arrival ≤ a) att
 -- Attractors and representatives. The orphans as new as t are few.
 pub record Coarse {P : Type 0} (dist : Distance P) (counts : Rule) (k g t : ℕ) (h : List (P × ℕ)) (m n : ℕ)
     (att rep : List (Place P)) : Type 0 where
-  pub living : All (Living counts h m n) att
+  pub living : Every (Living counts h m n) att
   pub apart : Pairwise (Ahead dist g) att
   pub few : length att ≤ suc k
-  pub tied : All (Tied dist counts g h m n) rep
+  pub tied : Every (Tied dist counts g h m n) rep
   pub split : Split k t att rep
   pub covered : (q : P) (a d : ℕ) → Arrived a q d h → counts a d m n ≡ true → Relevant k att a
       → Any (Serves dist g h q a) rep
@@ -62,7 +62,7 @@ Reaches dist s q a e = (a ≤ e.latest.arrival) × (dist e.first.piece q ≤ s)
 -- the lost mark was posted, and is no newer than any entry
 abbrev pub Marked : {P : Type 0} → List (P × ℕ) → List (Entry P) → Option Stamp → Type 0
 Marked h fine None = Unit {0}
-Marked {P} h fine (Some mark) = ((p : P) × Arrived mark.arrival p mark.day h) × All
+Marked {P} h fine (Some mark) = ((p : P) × Arrived mark.arrival p mark.day h) × Every
     (λ e. mark.arrival ≤ e.latest.arrival) fine
 
 -- arrival a is newer than the lost mark
@@ -72,7 +72,7 @@ Above (Some mark) a = mark.arrival < a
 
 pub record Fine {P : Type 0} (dist : Distance P) (counts : Rule) (k limit s : ℕ) (h : List (P × ℕ)) (m n : ℕ)
     (att : List (Place P)) (fine : List (Entry P)) (lost : Option Stamp) : Type 0 where
-  pub near : All (Close dist counts s h m n) fine
+  pub near : Every (Close dist counts s h m n) fine
   pub few : length fine ≤ limit
   pub marked : Marked h fine lost
   pub covered : (q : P) (a d : ℕ) → Arrived a q d h → counts a d m n ≡ true → Relevant k att a → Above lost a

@@ -1,7 +1,7 @@
 -- What is true of the book at every stage of a run, from what happened: the invariant over runs. Setting up and
 -- opening keep it.
 use Rattle.std.proofs.Common.{◌≡◌, ℕ, ◌≤◌, true, ◌&&◌, leb, List, [], ◌∷◌, ◌++◌, map, length, Some, None, Ok, Option, Result, sym, refl, ap, ◌∙◌, subst, arith}
-use Rattle.std.specs.List.{AllByRecursion as All}
+use Rattle.std.specs.List.{AllByRecursion as Every}
 use Rattle.std.proofs.lemmas.List.{length-map}
 use Rattle.std.proofs.lemmas.Bool.{and_parts, not-false}
 use Rattle.refusal.specs.declared.Refusal.{Refusal}
@@ -49,7 +49,7 @@ pub record Running {P : Type 0} (dist : Distance P) (counts : Rule) (t : Story P
   pub growing : Growing None (radii_of rows)
   pub some : 1 ≤ length rows
   pub days : Days t.day t.posts
-  pub sound : All (Sound dist counts t.settings t.posts (length t.posts) t.day) rows
+  pub sound : Every (Sound dist counts t.settings t.posts (length t.posts) t.day) rows
 
 abbrev pub Holds : {P : Type 0} → Distance P → Rule → Story P → Stage P → Type 0
 Holds dist counts t (SettingUp u) = Begun t u
@@ -125,7 +125,7 @@ module _ {P : Type 0} (dist : Distance P) (counts : Rule) where
     fine = record { near = tt; few = omega arith; marked = tt; covered = λ q a d r c rel above. elim r [ ] };
   }
 
-  bares_sound : (set : Settings) (m n : ℕ) (gs : List ℕ) → All (Sound dist counts set [] m n) (map bare gs)
+  bares_sound : (set : Settings) (m n : ℕ) (gs : List ℕ) → Every (Sound dist counts set [] m n) (map bare gs)
   bares_sound set m n [] = tt
   bares_sound set m n (g ∷ gs) = (bare_sound set m n g, bares_sound set m n gs)
 
@@ -140,7 +140,7 @@ module _ {P : Type 0} (dist : Distance P) (counts : Rule) where
     some = omega (arith, k.some, length-map t.radii (bare {P = P}));
     days = subst (Days t.day) (sym k.posts) tt;
     sound =
-        subst (λ h. All (Sound dist counts t.settings h (length t.posts) t.day) (map bare t.radii))
+        subst (λ h. Every (Sound dist counts t.settings h (length t.posts) t.day) (map bare t.radii))
         (sym k.posts)
         (bares_sound t.settings (length t.posts) t.day t.radii);
   }

@@ -1,7 +1,7 @@
 -- Where a radius has at most k attractors, every piece that counts has one in the list that a pick uses that stands
 -- for it, no farther than the slack.
 use Rattle.std.proofs.Common.{◌≡◌, ℕ, ◌*◌, ◌≤◌, true, List, [], ◌∷◌, map, length, Some, None, Option, subst, inl, inr, arith}
-use Rattle.std.specs.List.{AllByRecursion as All}
+use Rattle.std.specs.List.{AllByRecursion as Every}
 use Rattle.std.proofs.ByRecursion.{All-weaker, All-map}
 use Rattle.std.proofs.lemmas.Bool.{cases_lt}
 use Rattle.term.specs.Formulas.{Rule}
@@ -40,7 +40,7 @@ module _ {P : Type 0} (dist : Distance P) (metric : Metric dist) {counts : Rule}
             absurd (omega arith)
       ]
 
-  pub used_living : (grain : Grain) → All (Living counts h m n) (used grain row)
+  pub used_living : (grain : Grain) → Every (Living counts h m n) (used grain row)
   used_living Fine =
       All-map (Living counts h m n) (λ e. e.latest) row.fine
       (All-weaker (Close dist counts (step set.f row.radius) h m n) (λ e. Living counts h m n e.latest)

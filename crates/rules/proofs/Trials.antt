@@ -1,7 +1,7 @@
 -- A radius that does not pass is too small for every choice: more than k pieces that count lie farther apart than
 -- twice that radius.
 use Rattle.std.proofs.Common.{◌≡◌, ℕ, suc, ◌+◌, ◌*◌, ◌<◌, ◌≤◌, max, true, false, leb, List, [], ◌∷◌, ◌++◌, map, length, Some, None, Option, inl, inr, arith}
-use Rattle.std.specs.List.{AllByRecursion as All}
+use Rattle.std.specs.List.{AllByRecursion as Every}
 use Rattle.std.proofs.ByRecursion.{All-weaker, All-push}
 use Rattle.std.proofs.lemmas.List.{length-map}
 use Rattle.std.proofs.lemmas.Bool.{leb-true, leb-false, or_parts, and_cases, and_parts, cases_Bool}
@@ -23,7 +23,7 @@ use Rattle.rules.specs.declared.place.Place.{Place}
 -- places that count, more than k, farther apart than twice the radius
 record Witness {P : Type 0} (dist : Distance P) (counts : Rule) (k g : ℕ) (h : List (P × ℕ)) (m n : ℕ) : Type 0 where
   places : List (Place P)
-  living : All (Living counts h m n) places
+  living : Every (Living counts h m n) places
   spaced : Spaced (apart dist) (suc (2 * g)) places
   many : k < length places
 
@@ -37,7 +37,7 @@ spaced_ahead dist g (v ∷ vs) p = (
 )
 
 far_of : {P : Type 0} (dist : Distance P) (r : ℕ) (cs : List (Place P)) (x : Place P) → any_within dist r cs x ≡ false
-    → All (λ c. suc r ≤ apart dist c x) cs
+    → Every (λ c. suc r ≤ apart dist c x) cs
 far_of dist r [] x e = tt
 far_of dist r (c ∷ cs) x e =
     let p = or_parts (within dist r c x) (any_within dist r cs x) e in
@@ -45,8 +45,8 @@ far_of dist r (c ∷ cs) x e =
 
 -- what a trial chooses is of the list, and far apart
 module _ {P : Type 0} (dist : Distance P) (r : ℕ) (Q : Place P → Type 0) where
-  chosen : (cs xs : List (Place P)) → All Q cs → All Q xs → Spaced (apart dist) (suc r) cs
-      → All Q (choose dist r cs xs) × Spaced (apart dist) (suc r) (choose dist r cs xs)
+  chosen : (cs xs : List (Place P)) → Every Q cs → Every Q xs → Spaced (apart dist) (suc r) cs
+      → Every Q (choose dist r cs xs) × Spaced (apart dist) (suc r) (choose dist r cs xs)
   chosen cs [] qc qx s = (qc, s)
   chosen cs (x ∷ xs) qc qx s =
       elim (cases_Bool (any_within dist r cs x)) [
@@ -119,7 +119,7 @@ module _ {P : Type 0} (dist : Distance P) (metric : Metric dist) (counts : Rule)
   Outcome last (Some t) = Passed t
 
   taken-after : (b : ℕ) (rows : List (Row P)) → Beats dist set.k (counting counts m n h) b
-      → Growing (Some b) (map (λ r. r.radius) rows) → All (Sound dist counts set h m n) rows
+      → Growing (Some b) (map (λ r. r.radius) rows) → Every (Sound dist counts set h m n) rows
       → Outcome (last_of b (map (λ r. r.radius) rows)) (taken_after dist set.k (Some b) rows)
   taken-after b [] beats grow sound = beats
   taken-after b (row ∷ rows) beats grow sound =
@@ -137,7 +137,7 @@ module _ {P : Type 0} (dist : Distance P) (metric : Metric dist) (counts : Rule)
       ]
 
   pub taken-first : (row : Row P) (rows : List (Row P)) → Growing None (map (λ r. r.radius) (row ∷ rows))
-      → All (Sound dist counts set h m n) (row ∷ rows)
+      → Every (Sound dist counts set h m n) (row ∷ rows)
       → Outcome (last_of 0 (map (λ r. r.radius) (row ∷ rows))) (taken_after dist set.k None (row ∷ rows))
   taken-first row rows grow sound =
       elim (cases_Bool (passes dist set.k row)) [

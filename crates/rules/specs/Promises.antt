@@ -1,6 +1,6 @@
 -- What is promised of every run, from what happened alone: nothing here speaks of the steps that a book takes.
 use Rattle.std.specs.Prelude.{◌≡◌, ℕ, suc, ◌+◌, ◌*◌, ◌<◌, ◌≤◌, true, cond, ◌⊎◌, List, [], ◌∷◌, ◌++◌, length, take, Some, None, Ok, Err, Option, Result, ◌≢◌}
-use Rattle.std.specs.List.{AllByRecursion as All}
+use Rattle.std.specs.List.{AllByRecursion as Every}
 use Rattle.cover.specs.Choices.{Choice, reach}
 use Rattle.cover.specs.Distances.{Distance, Metric, Covers}
 use Rattle.refusal.specs.declared.Refusal.{Refusal}
@@ -158,7 +158,7 @@ RowFits s row =
 
 abbrev pub Fits : {P : Type 0} → Stage P → Type 0
 Fits (SettingUp u) = Unit {0}
-Fits (Opened b) = All (RowFits b.settings) b.rows
+Fits (Opened b) = Every (RowFits b.settings) b.rows
 
 -- In every run of a book, under a tape and a term of these meanings, cover, factor, refusal and room hold.
 abbrev pub RunsHoldUnder : (P : Type 0) → Distance P → Rule → Type 0

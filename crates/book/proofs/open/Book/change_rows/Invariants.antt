@@ -2,14 +2,14 @@ use Rattle.std.proofs.Common.{◌≡◌, ◌*◌, map, take, drop}
 use Rattle.row.specs.Seen.{judged, seen_rows}
 use Rattle.rules.specs.Limits.{part_size}
 use Rattle.rules.specs.Promises.{RowFits}
-use Rattle.std.specs.List.{AllByRecursion as All}
+use Rattle.std.specs.List.{AllByRecursion as Every}
 use Rattle.book.proofs.Steps.{partway}
 use Rattle.book.proofs.open.Book.change_rows.Given as goal
 
 -- the radii so far are changed, and all else is as it was
 abbrev pub invariant-loop-j : goal.invariant-loop-j
 invariant-loop-j g l =
-    (All (RowFits (judged l.initial.self.settings))
+    (Every (RowFits (judged l.initial.self.settings))
     (map (g.C.Change.does l.change l.initial.self.settings) (seen_rows l.initial.self.settings (take l.initial.self.count l.initial.self.rows) l.initial.places))
     → seen_rows l.initial.self.settings (take l.initial.self.count l.self.rows) l.places
     ≡ partway (g.C.Change.does l.change l.initial.self.settings) l.j

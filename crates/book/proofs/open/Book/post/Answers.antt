@@ -1,7 +1,7 @@
 use Rattle.std.proofs.Common.{◌≡◌, ℕ, suc, ◌*◌, ◌≤◌, List, map, length, take, Some, None, Ok, sym, refl, ap, ◌∙◌, subst, add-one, arith}
 use Rattle.cover.specs.Distances.{Metric}
 use Rattle.row.specs.Seen.{judged, seen_rows}
-use Rattle.std.specs.List.{AllByRecursion as All}
+use Rattle.std.specs.List.{AllByRecursion as Every}
 use Rattle.rules.specs.Calls.{PostRule, posted, why_not_post}
 use Rattle.rules.specs.Laws.{Lawful}
 use Rattle.rules.specs.Limits.{part_size}
@@ -77,7 +77,7 @@ returns g c =
     c.change_rows.ensures.settings c.change_rows.ensures.count (c.change_rows.ensures.posts ∙ add-one b0.posts) c.change_rows.ensures.day
     c.change_rows.auto.places
     (ap (λ rs. record { settings = judged b0.settings; rows = rs; posts = suc b0.posts; day = d; places = length xs })
-    (c.change_rows.ensures.seen (subst (λ (n : ℕ). All (RowFits (judged b0.settings)) (after n)) (sym (add-one b0.posts)) fits)
+    (c.change_rows.ensures.seen (subst (λ (n : ℕ). Every (RowFits (judged b0.settings)) (after n)) (sym (add-one b0.posts)) fits)
     ∙ ap after (add-one b0.posts))) in
     let rule : Fits (Opened (posted dist counts p d b)) → PostRule dist counts b p d (Ok tt) (seen b1 ys) = λ fits. post_performed dist counts b (seen b1 ys) p d e (is fits) in
     let metric : Metric dist = record {
