@@ -1,11 +1,10 @@
 # For scripts that show that a misuse does not compile: a library crate `misuse` in a copy of the repository.
 # Source it with the name of the script in `name` and the crates that `misuse` is built on in `deps`. It uses what the
-# gate has left in target/.
+# gate has left in the crates' out/.
 top=$(cd "$(dirname "${BASH_SOURCE[0]}")/.." && pwd)
 work=$(mktemp -d) || exit 1
 trap 'rm -rf "$work"' EXIT
-mkdir -p "$work/target" "$work/crates/misuse/src"
-cp -R "$top/target/rlib" "$top/target/stamp" "$work/target/" 2>/dev/null
+mkdir -p "$work/crates/misuse/src"
 # those crates, and what they are built on
 queue=$deps
 while [ -n "$queue" ]; do
@@ -22,7 +21,7 @@ echo "misuse: $deps" >>"$work/crates.txt"
 # accepted: whether the program on standard input compiles and is proved; what was said is in the file `log`
 accepted() {
     cat >"$work/crates/misuse/src/lib.rt"
-    (cd "$work" && rt check misuse) >"$work/log" 2>&1
+    (cd "$work/crates/misuse" && rt check) >"$work/log" 2>&1
 }
 
 fail() {
@@ -33,5 +32,5 @@ fail() {
 
 # because LINE:COLUMN REASON: the program was refused there for that reason
 because() {
-    grep -q "misuse/src/lib.rt:$1:.*error\[$2" "$work/log"
+    grep -q "^src/lib.rt:$1:.*error\[$2" "$work/log"
 }
