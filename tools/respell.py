@@ -89,9 +89,17 @@ def main():
         return 1
     if "--list" in sys.argv:
         return 0
-    whole = re.compile(rf"(?<![\w'-]){WORD}")
+    # In a comment a word with a dash is mostly English, so only names in camel case are respelled there.
+    whole = re.compile(rf"(?P<comment>(?:--|//) .*|//[/!].*)|(?<![\w'-]){WORD}")
+    camel = re.compile(r"(?<![\w'-])[a-z]\w*[A-Z][\w']*(?![\w'-])")
+
+    def respelt(m):
+        if m["comment"]:
+            return camel.sub(lambda n: new.get(n.group(0), n.group(0)), m["comment"])
+        return new.get(m.group(0), m.group(0))
+
     for path, text in {**antt, **texts("*/src/**/*.rt")}.items():
-        after = whole.sub(lambda m: new.get(m.group(0), m.group(0)), text)
+        after = whole.sub(respelt, text)
         if after != text:
             path.write_text(after, encoding="utf-8")
     return every()

@@ -1,4 +1,4 @@
--- Choices of centres for a list of pieces: how far they reach, and the choice farthest_first_lem.
+-- Choices of centres for a list of pieces: how far they reach, and the choice farthest-first.
 use Rattle.std.specs.Prelude.{ℕ, zero, suc, ◌*◌, ◌<◌, ◌≤◌, min, max, true, false, cond, List, [], ◌∷◌, ◌++◌, length, ◌==◌, nat_lt, slice_index_or}
 use Rattle.std.specs.List.{ContainsAt as Has, AllByRecursion as Every}
 use Rattle.cover.specs.Distances.{Distance, Metric, Covers, Spaced}
@@ -34,7 +34,7 @@ onward dist x xs zero cs = cs
 onward dist x xs (suc n) cs =
     elim (reach dist cs xs == 0) [ true ↦ cs | false ↦ onward dist x xs n (cs ++ (slice_index_or xs (greatest_at (nearest dist cs) xs) x ∷ [])) ]
 
--- at most k centres, farthest_first_lem: the first of the list is the first centre
+-- at most k centres, farthest-first: the first of the list is the first centre
 abbrev pub farthest_first : {P : Type 0} → Distance P → ℕ → List P → List P
 farthest_first dist zero xs = []
 farthest_first dist (suc k) [] = []

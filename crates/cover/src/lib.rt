@@ -14,7 +14,7 @@ pub fn pigeonhole<P>() -> u8
     0
 }
 
-/// Centres chosen farthest_first_lem reach at most twice as far as any other choice of as many.
+/// Centres chosen farthest-first reach at most twice as far as any other choice of as many.
 pub fn farthest_first<P>() -> u8
     ensures { FarthestFirst P }
 {

@@ -1,4 +1,4 @@
--- The centres of a list, farthest_first_lem, and the work list that they are chosen by.
+-- The centres of a list, farthest-first, and the work list that they are chosen by.
 use Rattle.std.specs.Prelude.{◌≡◌, ℕ, min, List, [], ◌∷◌, ◌++◌, map, length, drop}
 use Rattle.cover.specs.Choices.{farthest_first, reach}
 
@@ -8,7 +8,7 @@ lowered f [] ns = ns
 lowered f (x ∷ xs) [] = []
 lowered f (x ∷ xs) (n ∷ ns) = min n (f x) ∷ lowered f xs ns
 
--- At most k centres of xs are chosen, farthest_first_lem: how many there are, how far they reach over xs, and the
+-- At most k centres of xs are chosen, farthest-first: how many there are, how far they reach over xs, and the
 -- answers, which were `old` before: the centres' numbers at the front, and the rest as it was.
 pub record Chosen {X : Type 0} (dist : X → X → ℕ) (number : X → ℕ) (k : ℕ) (xs : List X) (old answers : List ℕ) (count distance : ℕ) : Type 0 where
   pub counted : count ≡ length (farthest_first dist k xs)

@@ -1,5 +1,5 @@
 -- The trial over the radii, and what its answer stands for.
-use Rattle.std.specs.Prelude.{ℕ, zero, suc, ◌*◌, Bool, cond, List, [], ◌∷◌, ◌++◌, get_or, Some, None, Option, slice_index_or}
+use Rattle.std.specs.Prelude.{ℕ, zero, suc, ◌*◌, Bool, cond, List, [], ◌∷◌, ◌++◌, Some, None, Option, slice_index_or}
 use Rattle.packed.specs.Lists.{cut}
 use Rattle.row.specs.Seen.{judged, seen_row}
 use Rattle.row.specs.declared.kept.Row.{Row}
@@ -31,7 +31,7 @@ no_row = record { radius = 0; attractors = 0; representatives = 0; entries = 0; 
 -- the radius before the one at index j
 abbrev pub floor_at : List Row → ℕ → Option ℕ
 floor_at rows zero = None
-floor_at rows (suc j) = Some (get_or rows j no_row).radius
+floor_at rows (suc j) = Some (slice_index_or rows j no_row).radius
 
 -- what a pick takes, by the index of its radius: the row as seen with its part of the shelf, and the floor
 abbrev pub taken_at : {P : Type 0} → Settings → List Row → List (Place P) → Option ℕ → Option (Taken P)

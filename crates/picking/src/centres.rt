@@ -1,4 +1,4 @@
-//! The centres of a pick, farthest_first_lem.
+//! The centres of a pick, farthest-first.
 
 ghost use Rattle.std.specs.Prelude.{◌≡◌, ◌≤◌, map, length};
 ghost use Rattle.cover.specs.Choices.{greatest, greatest_at};
@@ -75,7 +75,7 @@ fn choose_from<P, T: Tape<P>>(
     (count, far.1)
 }
 
-/// Chooses at most k centres of a list that is not empty, farthest_first_lem: the first of the list, and then, as long
+/// Chooses at most k centres of a list that is not empty, farthest-first: the first of the list, and then, as long
 /// as one is not at 0 from its nearest centre, the earliest of those that are farthest from theirs. Writes the
 /// centres' arrivals to the front of the answers. Says how many there are, and how far they reach over the list.
 pub fn choose_centres<P, T: Tape<P>>(

@@ -1,4 +1,4 @@
-//! How a pick reads the shelf: the trial that finds its radius, and the centres, farthest_first_lem.
+//! How a pick reads the shelf: the trial that finds its radius, and the centres, farthest-first.
 
 #![tactic(auto)]
 

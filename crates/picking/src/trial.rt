@@ -1,6 +1,6 @@
 //! The trial over the radii.
 
-ghost use Rattle.std.specs.Prelude.{◌≡◌, ℕ, ◌*◌, ◌<◌, ◌≤◌, length, get_or, IfSome, slice_index_or};
+ghost use Rattle.std.specs.Prelude.{◌≡◌, ℕ, ◌*◌, ◌<◌, ◌≤◌, length, IfSome, slice_index_or};
 ghost use Rattle.picking.specs.Trials.{first_passing, gathered, no_row};
 ghost use Rattle.row.specs.Seen.{Within, judged, seen_rows};
 ghost use Rattle.rules.specs.Limits.{greatest_radius, part_size};
@@ -39,7 +39,7 @@ pub fn first_passing<P, T: Tape<P>>(
     tape: &T,
 ) -> Option<usize>
     requires within { (j : ℕ) → j < length rows.now → Within settings (slice_index_or rows.now j no_row) }
-    requires radii { (j : ℕ) → j < length rows.now → (get_or rows.now j no_row).radius ≤ greatest_radius }
+    requires radii { (j : ℕ) → j < length rows.now → (slice_index_or rows.now j no_row).radius ≤ greatest_radius }
     requires long { length rows.now * part_size (judged settings) ≤ length places.now }
     ensures first { result ≡ first_passing (T.Tape.dist tape.now) settings.k (seen_rows settings rows.now places.now) }
     ensures inside { IfSome result (λ j. j < length rows.now) }

@@ -16,7 +16,7 @@ use tape::Tape;
 
 /// Where k + 1 attractors stand, the oldest goes.
 fn trim_attractors<P: Copy>(row: &mut Row, part: &mut [Place<P>], settings: Settings)
-    requires within_2 { Within settings row.old }
+    requires lengths { Within settings row.old }
     requires part_len { length part.old ≡ part_size (judged settings) }
     ensures seen { seen_row settings row.new part.new ≡ with_attractors (less_oldest settings.k (seen_row settings row.old part.old).attractors) (seen_row settings row.old part.old) }
     ensures within { Within settings row.new }
@@ -35,7 +35,7 @@ fn append_attractor<P: Copy>(
     settings: Settings,
     place: Place<P>,
 )
-    requires within_2 { Within settings row.old }
+    requires lengths { Within settings row.old }
     requires part_len { length part.old ≡ part_size (judged settings) }
     requires attractors_le_k { row.old.attractors ≤ settings.k }
     ensures seen { seen_row settings row.new part.new ≡ with_attractors ((seen_row settings row.old part.old).attractors ++ (place ∷ [])) (seen_row settings row.old part.old) }
@@ -53,7 +53,7 @@ fn append_representative<P: Copy>(
     settings: Settings,
     place: Place<P>,
 )
-    requires within_2 { Within settings row.old }
+    requires lengths { Within settings row.old }
     requires part_len { length part.old ≡ part_size (judged settings) }
     ensures seen { row.old.representatives < representative_room settings.k → seen_row settings row.new part.new ≡ with_representatives ((seen_row settings row.old part.old).representatives ++ (place ∷ [])) (seen_row settings row.old part.old) }
     ensures within { Within settings row.new }
@@ -67,7 +67,7 @@ fn append_representative<P: Copy>(
 
 /// With k + 1 attractors, what is older than the oldest of them is removed.
 fn clean_up<P: Copy>(row: &mut Row, part: &mut [Place<P>], settings: Settings)
-    requires within_2 { Within settings row.old }
+    requires lengths { Within settings row.old }
     requires part_len { length part.old ≡ part_size (judged settings) }
     ensures seen { seen_row settings row.new part.new ≡ rule.clean_up settings.k (seen_row settings row.old part.old) }
     ensures within { Within settings row.new }
@@ -102,7 +102,7 @@ fn attract<P: Copy>(
     place: Place<P>,
     attractor: u32,
 )
-    requires within_2 { Within settings row.old }
+    requires lengths { Within settings row.old }
     requires part_len { length part.old ≡ part_size (judged settings) }
     ensures seen { seen_row settings row.new part.new ≡ takes place attractor (seen_row settings row.old part.old) }
     ensures within { Within settings row.new }
@@ -130,7 +130,7 @@ fn stands<P>(row: &Row, part: &[Place<P>], settings: Settings, arrival: u32) -> 
 
 /// A piece becomes an attractor, and its own representative. It is told what follows if that fits.
 fn enrol<P: Copy>(row: &mut Row, part: &mut [Place<P>], settings: Settings, place: Place<P>)
-    requires within_2 { Within settings row.old }
+    requires lengths { Within settings row.old }
     requires part_len { length part.old ≡ part_size (judged settings) }
     ensures seen { length (rule.clean_up settings.k (rule.enrol settings.k place (seen_row settings row.old part.old))).representatives ≤ representative_room settings.k → seen_row settings row.new part.new ≡ rule.clean_up settings.k (rule.enrol settings.k place (seen_row settings row.old part.old)) }
     ensures within { Within settings row.new }
@@ -152,7 +152,7 @@ pub fn settle<P: Copy, T: Tape<P>>(
     tape: &T,
     place: Place<P>,
 )
-    requires within_2 { Within settings row.old }
+    requires lengths { Within settings row.old }
     requires part_len { length part.old ≡ part_size (judged settings) }
     requires radius_bound { row.old.radius ≤ 1000000 }
     ensures seen { length (rule.settle (T.Tape.dist tape.now) settings.k place (seen_row settings row.old part.old)).representatives ≤ representative_room settings.k → seen_row settings row.new part.new ≡ rule.settle (T.Tape.dist tape.now) settings.k place (seen_row settings row.old part.old) }

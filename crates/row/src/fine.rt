@@ -16,7 +16,7 @@ use term::Stamp;
 
 /// Where the fine limit is reached, the entry with the least latest arrival goes, and leaves the lost mark.
 fn make_room<P: Copy>(row: &mut Row, part: &mut [Place<P>], settings: Settings)
-    requires within_2 { Within settings row.old }
+    requires lengths { Within settings row.old }
     requires part_len { length part.old ≡ part_size (judged settings) }
     ensures seen { seen_row settings row.new part.new ≡ with_fine (make_room settings.limit (seen_row settings row.old part.old).fine row.old.lost).0 (make_room settings.limit (seen_row settings row.old part.old).fine row.old.lost).1 (seen_row settings row.old part.old) }
     ensures within { Within settings row.new }
@@ -39,7 +39,7 @@ fn make_room<P: Copy>(row: &mut Row, part: &mut [Place<P>], settings: Settings)
 
 /// A new entry with a piece as first and latest goes last.
 fn append_entry<P: Copy>(row: &mut Row, part: &mut [Place<P>], settings: Settings, place: Place<P>)
-    requires within_2 { Within settings row.old }
+    requires lengths { Within settings row.old }
     requires part_len { length part.old ≡ part_size (judged settings) }
     requires entries_lt_limit { row.old.entries < settings.limit }
     ensures seen { seen_row settings row.new part.new ≡ with_fine ((seen_row settings row.old part.old).fine ++ (record { first = place; latest = place } ∷ [])) row.old.lost (seen_row settings row.old part.old) }
@@ -61,7 +61,7 @@ pub fn refine<P: Copy, T: Tape<P>>(
     tape: &T,
     place: Place<P>,
 )
-    requires within_2 { Within settings row.old }
+    requires lengths { Within settings row.old }
     requires part_len { length part.old ≡ part_size (judged settings) }
     ensures seen { seen_row settings row.new part.new ≡ rule.refine (T.Tape.dist tape.now) (judged settings) place (seen_row settings row.old part.old) }
     ensures within { Within settings row.new }

@@ -17,7 +17,7 @@ pub fn keep_attractors<P: Copy, Q: Test<P>>(
     settings: Settings,
     test: &Q,
 )
-    requires within_2 { Within settings row.old }
+    requires lengths { Within settings row.old }
     requires part_len { length part.old ≡ part_size (judged settings) }
     ensures seen { seen_row settings row.new part.new ≡ with_attractors (filter (Q.Test.passes test.now) (seen_row settings row.old part.old).attractors) (seen_row settings row.old part.old) }
     ensures within { Within settings row.new }
@@ -33,7 +33,7 @@ pub fn keep_representatives<P: Copy, Q: Test<P>>(
     settings: Settings,
     test: &Q,
 )
-    requires within_2 { Within settings row.old }
+    requires lengths { Within settings row.old }
     requires part_len { length part.old ≡ part_size (judged settings) }
     ensures seen { seen_row settings row.new part.new ≡ with_representatives (filter (Q.Test.passes test.now) (seen_row settings row.old part.old).representatives) (seen_row settings row.old part.old) }
     ensures within { Within settings row.new }
@@ -49,7 +49,7 @@ pub fn keep_entries<P: Copy, Q: Test<P>>(
     settings: Settings,
     test: &Q,
 )
-    requires within_2 { Within settings row.old }
+    requires lengths { Within settings row.old }
     requires part_len { length part.old ≡ part_size (judged settings) }
     ensures seen { seen_row settings row.new part.new ≡ with_fine (filter (λ e. Q.Test.passes test.now e.latest) (seen_row settings row.old part.old).fine) row.old.lost (seen_row settings row.old part.old) }
     ensures within { Within settings row.new }

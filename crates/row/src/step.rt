@@ -24,7 +24,7 @@ pub fn expire<P: Copy, W: Term>(
     term: &W,
     clock: Clock,
 )
-    requires within_2 { Within settings row.old }
+    requires lengths { Within settings row.old }
     requires part_len { length part.old ≡ part_size (judged settings) }
     ensures seen { seen_row settings row.new part.new ≡ rule.expire (W.Term.counts term.now) clock.posts clock.day (seen_row settings row.old part.old) }
     ensures within { Within settings row.new }
@@ -46,7 +46,7 @@ pub fn post<P: Copy, T: Tape<P>, W: Term>(
     term: &W,
     place: Place<P>,
 )
-    requires within_2 { Within settings row.old }
+    requires lengths { Within settings row.old }
     requires part_len { length part.old ≡ part_size (judged settings) }
     requires radius_bound { row.old.radius ≤ 1000000 }
     ensures seen { RowFits (judged settings) (rule.post_row (T.Tape.dist tape.now) (W.Term.counts term.now) (judged settings) place (seen_row settings row.old part.old)) → seen_row settings row.new part.new ≡ rule.post_row (T.Tape.dist tape.now) (W.Term.counts term.now) (judged settings) place (seen_row settings row.old part.old) }

@@ -66,7 +66,7 @@ pub record Pick (P : Type 0) : Type 0 where
   pub centres : List (Place P)
   pub told : Picked
 
--- The centres from a list, farthest_first_lem: the radius is their reach over the list and the slack. There is nothing
+-- The centres from a list, farthest-first: the radius is their reach over the list and the slack. There is nothing
 -- to pick from an empty list.
 abbrev pub pick_among : {P : Type 0} → Distance P → Settings → Taken P → Grain → List (Place P) → Result (Pick P) Refusal
 pick_among dist s t grain [] = Err NothingCounts

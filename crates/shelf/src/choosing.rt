@@ -1,6 +1,6 @@
 //! The pick at a radius.
 
-ghost use Rattle.std.specs.Prelude.{◌≡◌, ◌+◌, ◌*◌, ◌<◌, ◌≤◌, length, get_or, Some, slice_index_or};
+ghost use Rattle.std.specs.Prelude.{◌≡◌, ◌+◌, ◌*◌, ◌<◌, ◌≤◌, length, Some, slice_index_or};
 ghost use Rattle.picking.specs.Trials.{floor_at, no_row, taken_at};
 ghost use Rattle.row.specs.Seen.{Within, judged};
 ghost use Rattle.rules.specs.Limits.{greatest_radius, part_size, work_needed};
@@ -120,7 +120,7 @@ impl<P> Shelf<'_, P> {
     ) -> Result<Picked, Refusal>
         requires there { j < length rows.now }
         requires within { Within settings (slice_index_or rows.now j no_row) }
-        requires bounded { (get_or rows.now j no_row).radius ≤ greatest_radius }
+        requires bounded { (slice_index_or rows.now j no_row).radius ≤ greatest_radius }
         requires long { length rows.now * part_size (judged settings) ≤ length self.now.places.now }
         requires answers { settings.k ≤ length answers.old }
         requires work { work_needed (judged settings) ≤ length work.old }

@@ -1,6 +1,6 @@
 //! A shelf of lent places, and what is read from it.
 
-ghost use Rattle.std.specs.Prelude.{◌≡◌, ℕ, ◌*◌, ◌<◌, ◌≤◌, length, get_or, IfSome, nat_eq, slice_index_or};
+ghost use Rattle.std.specs.Prelude.{◌≡◌, ℕ, ◌*◌, ◌<◌, ◌≤◌, length, IfSome, nat_eq, slice_index_or};
 ghost use Rattle.picking.specs.Trials.{first_passing, no_row};
 ghost use Rattle.row.specs.Seen.{Within, judged, seen_rows};
 ghost use Rattle.rules.specs.Calls.{lying_from, piece_of, place_of};
@@ -43,7 +43,7 @@ impl<P> Shelf<'_, P> {
         tape: &T,
     ) -> Option<usize>
         requires within { (j : ℕ) → j < length rows.now → Within settings (slice_index_or rows.now j no_row) }
-        requires radii { (j : ℕ) → j < length rows.now → (get_or rows.now j no_row).radius ≤ greatest_radius }
+        requires radii { (j : ℕ) → j < length rows.now → (slice_index_or rows.now j no_row).radius ≤ greatest_radius }
         requires long { length rows.now * part_size (judged settings) ≤ length self.now.places.now }
         ensures first { result ≡ first_passing (T.Tape.dist tape.now) settings.k (seen_rows settings rows.now self.now.places.now) }
         ensures inside { IfSome result (λ j. j < length rows.now) }

@@ -12,7 +12,7 @@ returns g c =
     let n = row.attractors in
     let xs = c.args.part.now in
     let x = c.args.place in
-    let w = c.requires.within_2 in
+    let w = c.requires.lengths in
     let long = c.requires.part_len in
     let room = c.requires.attractors_le_k in
     record {

@@ -13,7 +13,7 @@ returns-then-row-settings g c =
     let n = row.representatives in
     let xs = c.args.part.now in
     let x = c.args.place in
-    let w = c.requires.within_2 in
+    let w = c.requires.lengths in
     let long = c.requires.part_len in
     let room = c.if-row-settings.true in
     record {

@@ -11,7 +11,7 @@ returns g c =
     let row = c.args.row.now in
     let xs = c.args.part.now in
     let ys = c.keep-row.new.part in
-    let w = c.requires.within_2 in
+    let w = c.requires.lengths in
     let b = w.1 in
     let fewer = c.keep-row.ensures.within in
     record {
