@@ -6,7 +6,7 @@ ghost use Rattle.refusal.specs.declared.Refusal.TheVariants.{SettingOutOfRange};
 ghost use Rattle.tape.specs.Combined.{cut_off};
 ghost use Rattle.tape.specs.Laid.{Laid};
 ghost use Rattle.tape.specs.Limits.{limit};
-ghost use Rattle.std.proofs.Common.{rules, arith};
+ghost use Rattle.std.proofs.Common.{rules};
 
 use crate::distance::Tape;
 use refusal::{Refusal, one_to_million};
@@ -34,13 +34,13 @@ impl<T: Drop> Cut<T> {
 impl<P, T: Tape<P>> Tape<P> for Cut<T> {
     ghost dist = { λ t a b. cut_off t.cap (T.Tape.dist t.inner a b) };
 
-    ghost range = { first_of (Prim.search rules, Prim.grind (arith, Self.row.coded.inj)) };
+    ghost range = { Prim.search rules };
 
-    ghost zero = { first_of (Prim.search rules, Prim.grind (arith, Self.row.coded.inj)) };
+    ghost zero = { Prim.search rules };
 
-    ghost symmetric = { first_of (Prim.search rules, Prim.grind (arith, Self.row.coded.inj)) };
+    ghost symmetric = { Prim.search rules };
 
-    ghost triangle = { first_of (Prim.search rules, Prim.grind (arith, Self.row.coded.inj)) };
+    ghost triangle = { Prim.search rules };
 
     fn measure(&self, a: &P, b: &P) -> u32 {
         self.inner.measure(a, b).min(self.cap)

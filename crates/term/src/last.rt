@@ -4,7 +4,7 @@ ghost use Rattle.std.specs.Prelude.{◌≡◌, ◌<◌};
 ghost use Rattle.refusal.specs.Makes.{MadeIf, OneToMillion};
 ghost use Rattle.refusal.specs.declared.Refusal.TheVariants.{SettingOutOfRange};
 ghost use Rattle.term.specs.Formulas.{by_days, by_number};
-ghost use Rattle.std.proofs.Common.{rules, arith};
+ghost use Rattle.std.proofs.Common.{rules};
 
 use crate::window::{Clock, Stamp, Term};
 use refusal::{Refusal, one_to_million};
@@ -46,11 +46,11 @@ impl ByDays {
 impl Term for ByNumber {
     ghost counts = { λ t a d posts day. by_number t.n a d posts day };
 
-    ghost newest = { first_of (Prim.search rules, Prim.grind (arith, Self.row.coded.inj)) };
+    ghost newest = { Prim.search rules };
 
-    ghost expired = { first_of (Prim.search rules, Prim.grind (arith, Self.row.coded.inj)) };
+    ghost expired = { Prim.search rules };
 
-    ghost newer = { first_of (Prim.search rules, Prim.grind (arith, Self.row.coded.inj)) };
+    ghost newer = { Prim.search rules };
 
     fn still(&self, stamp: Stamp, clock: Clock) -> bool {
         clock.posts.saturating_sub(stamp.arrival) < self.n
@@ -60,11 +60,11 @@ impl Term for ByNumber {
 impl Term for ByDays {
     ghost counts = { λ t a d posts day. by_days t.n a d posts day };
 
-    ghost newest = { first_of (Prim.search rules, Prim.grind (arith, Self.row.coded.inj)) };
+    ghost newest = { Prim.search rules };
 
-    ghost expired = { first_of (Prim.search rules, Prim.grind (arith, Self.row.coded.inj)) };
+    ghost expired = { Prim.search rules };
 
-    ghost newer = { first_of (Prim.search rules, Prim.grind (arith, Self.row.coded.inj)) };
+    ghost newer = { Prim.search rules };
 
     fn still(&self, stamp: Stamp, clock: Clock) -> bool {
         clock.day.saturating_sub(stamp.day) < self.n
