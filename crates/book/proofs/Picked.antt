@@ -24,6 +24,7 @@ use Rattle.rules.proofs.Upheld.{runs_hold}
 use Rattle.term.specs.Formulas.{Rule}
 use Rattle.shelf.specs.Picks.{Among, standing}
 use Rattle.book.proofs.Refused.{unrefused}
+use Rattle.book.proofs.Sought.{seen-radii}
 
 rule_from : {P : Type 0} (dist : Distance P) (counts : Rule) (b : View P) (answers work : List ℕ) (p : Result (rule.Pick P) Refusal) (r : Result Picked Refusal) (answers2 work2 : List ℕ)
     → p ≡ pick dist counts b answers work → Among p answers work r answers2 work2 → PickRule dist counts b answers work r answers2 work2
@@ -48,21 +49,22 @@ pick_from_lem dist counts b answers work t r answers2 work2 q e a =
     (ap (pick_from dist counts b) (sym e) ∙ ap (λ o. after o (pick_from dist counts b (taken dist b))) (sym q))
     a
 
--- from what was read by the rows of the radii
-module _ {P : Type 0} (dist : Distance P) (counts : Rule) (s : Settings) (live rows : List Row) (p d : ℕ) (xs : List (Place P)) (answers work : List ℕ) (same : live ≡ rows) (q : why_not_pick (standing s rows p d xs) answers work ≡ None) where
-  takes : (o : Option ℕ) → o ≡ first_passing dist s.k (seen_rows s live xs) → taken dist (standing s rows p d xs) ≡ taken_at s rows xs o
-  takes o e = taken-seen dist (standing s rows p d xs) s rows xs o refl refl (e ∙ ap (λ (rs : List Row). first_passing dist s.k (seen_rows s rs xs)) same)
+-- from what was read by the radii
+module _ {P : Type 0} (dist : Distance P) (counts : Rule) (s t : Settings) (rows rs : List Row) (p d : ℕ) (places xs : List (Place P)) (answers work : List ℕ) (e1 : t ≡ s) (e2 : rs ≡ rows) (e3 : xs ≡ places) (q : why_not_pick (standing s rows p d places) answers work ≡ None) where
+  takes : (o : Option ℕ) → o ≡ first_passing dist t.k (seen_rows t rs xs) → taken dist (standing s rows p d places) ≡ taken_at s rows places o
+  takes o e =
+      taken-seen dist (standing s rows p d places) s rows places o refl refl
+      (e ∙ ap (λ (u : Settings). first_passing dist u.k (seen_rows u rs xs)) e1 ∙ ap (first_passing dist s.k) (seen-radii s s rows rs places xs refl e2 e3))
 
-  pub pick_made : (j : ℕ) (r : Result Picked Refusal) (answers2 work2 : List ℕ) → Some j ≡ first_passing dist s.k (seen_rows s live xs)
-      → Among (pick_from dist counts (standing s live p d xs) (taken_at s live xs (Some j))) answers work r answers2 work2
-      → PickRule dist counts (standing s rows p d xs) answers work r answers2 work2
+  pub pick_made : (j : ℕ) (r : Result Picked Refusal) (answers2 work2 : List ℕ) → Some j ≡ first_passing dist t.k (seen_rows t rs xs)
+      → Among (pick_from dist counts (standing s rows p d places) (taken_at s rows places (Some j))) answers work r answers2 work2
+      → PickRule dist counts (standing s rows p d places) answers work r answers2 work2
   pick_made j r answers2 work2 e a =
-      pick_from_lem dist counts (standing s rows p d xs) answers work (taken_at s rows xs (Some j)) r answers2 work2 q (takes (Some j) e)
-      (subst (λ (rs : List Row). Among (pick_from dist counts (standing s rs p d xs) (taken_at s rs xs (Some j))) answers work r answers2 work2) same a)
+      pick_from_lem dist counts (standing s rows p d places) answers work (taken_at s rows places (Some j)) r answers2 work2 q (takes (Some j) e) a
 
-  pub pick_none : None ≡ first_passing dist s.k (seen_rows s live xs) → PickRule dist counts (standing s rows p d xs) answers work (Err NoRadiusPasses) answers work
+  pub pick_none : None ≡ first_passing dist t.k (seen_rows t rs xs) → PickRule dist counts (standing s rows p d places) answers work (Err NoRadiusPasses) answers work
   pick_none e =
-      pick_from_lem dist counts (standing s rows p d xs) answers work None (Err NoRadiusPasses) answers work q (takes None e)
+      pick_from_lem dist counts (standing s rows p d places) answers work None (Err NoRadiusPasses) answers work q (takes None e)
       (record { answer = refl; written = refl; spared = refl })
 
 -- a pick that is not refused at once has its places and its lists

@@ -111,3 +111,12 @@ book-opened s n gs rows places e =
 
 pub true_not_false : true ≡ false → ⊥
 true_not_false e = let z : ◌≡◌ {A = ℕ} 0 1 = cc in omega arith
+
+-- rows made of radii one by one
+pub rows-mapped : (gs : List ℕ) (rows : List Row) → length rows ≡ length gs
+    → ((i : ℕ) → i < length gs → get_or rows i no_row ≡ empty_row (get_or gs i 0)) → rows ≡ map empty_row gs
+rows-mapped [] [] l each = refl
+rows-mapped [] (r ∷ rs) l each = let z : ⊥ = omega arith in absurd z
+rows-mapped (g ∷ gs) [] l each = let z : ⊥ = omega arith in absurd z
+rows-mapped (g ∷ gs) (r ∷ rs) l each =
+    ap (λ r. r ∷ rs) (each 0 (omega arith)) ∙ ap (λ rs. empty_row g ∷ rs) (rows-mapped gs rs (omega arith) (λ i h. each (suc i) (omega arith)))

@@ -1,5 +1,6 @@
 -- What is sought on the shelf, and refused where the shelf is too short.
-use Rattle.std.proofs.Common.{◌≡◌, ℕ, ◌*◌, ◌<◌, ◌≤◌, true, false, eqb, List, [], ◌∷◌, length, get_or, take, Err, Option, Result, sym, ap, ◌∙◌, subst, arith}
+use Rattle.std.proofs.Common.{◌≡◌, ℕ, ◌*◌, ◌<◌, ◌≤◌, true, false, eqb, List, [], ◌∷◌, length, get_or, take, Some, None, Err, Option, Result, sym, refl, ap, ◌∙◌, subst, arith}
+use Rattle.std.specs.Option as option
 use Rattle.std.proofs.lemmas.List.{get_or-take, length-take-le}
 use Rattle.std.proofs.lemmas.Bool.{ltb-false}
 use Rattle.picking.specs.Trials.{no_row}
@@ -14,7 +15,6 @@ use Rattle.rules.specs.Views as view
 use Rattle.rules.specs.Views.{View}
 use Rattle.rules.specs.Words.{after, first_of, first_reason, ok_or}
 use Rattle.rules.specs.declared.place.Place.{Place}
-use Rattle.shelf.specs.Picks.{standing}
 use Rattle.book.specs.Rows.{RowsWithin}
 
 pub seek_short : {P X : Type 0} (b : View P) (r : Result X Refusal) → true ≡ short b → Err ShelfTooShort ≡ after (why_not_seek b) r
@@ -23,21 +23,29 @@ seek_short b r e = ap (λ c. after (first_reason ((c, ShelfTooShort) ∷ [])) r)
 seek_goes : {P X : Type 0} (b : View P) (r : Result X Refusal) → false ≡ short b → r ≡ after (why_not_seek b) r
 seek_goes b r e = ap (λ c. after (first_reason ((c, ShelfTooShort) ∷ [])) r) e
 
--- what is read by the rows of the radii is what the rules say
-module _ {P : Type 0} (s : Settings) (live rows : List Row) (p d : ℕ) (xs : List (Place P)) (same : live ≡ rows) (long : false ≡ short (standing s rows p d xs)) where
-  read : {X : Type 0} (f : List (view.Row P) → Option X) (o : Option X) → o ≡ f (seen_rows s live xs)
-      → ok_or ArrivalNotKept o ≡ after (why_not_seek (standing s rows p d xs)) (ok_or ArrivalNotKept (f (seen_rows s rows xs)))
+-- std says it in the other order
+pub ok_or_same : {X : Type 0} (o : Option X) → option.ok_or o ArrivalNotKept ≡ ok_or ArrivalNotKept o
+ok_or_same None = refl
+ok_or_same (Some x) = refl
+
+-- what is read by the radii, with settings s and rows seen as vs, is what the rules say
+module _ {P : Type 0} (b : View P) (s : view.Settings) (vs : List (view.Row P)) (settled : s ≡ b.settings) (same : vs ≡ b.rows) (long : false ≡ short b) where
+  read : {X : Type 0} (f : view.Settings → List (view.Row P) → Option X) (o : Option X) → o ≡ f s vs
+      → ok_or ArrivalNotKept o ≡ after (why_not_seek b) (ok_or ArrivalNotKept (f b.settings b.rows))
   read f o e =
-      ap (ok_or ArrivalNotKept) (e ∙ ap (λ (rs : List Row). f (seen_rows s rs xs)) same)
-      ∙ seek_goes (standing s rows p d xs) (ok_or ArrivalNotKept (f (seen_rows s rows xs))) long
+      ap (ok_or ArrivalNotKept) (e ∙ ap (λ t. f t vs) settled ∙ ap (f b.settings) same)
+      ∙ seek_goes b (ok_or ArrivalNotKept (f b.settings b.rows)) long
 
-  pub found : (a : ℕ) (o : Option ℕ) → o ≡ place_of (first_of (λ x. eqb x.1.arrival a) (lying_from (judged s) 0 (seen_rows s live xs)))
-      → FindRule (standing s rows p d xs) a (ok_or ArrivalNotKept o)
-  found a o e = read (λ vs. place_of (first_of (λ x. eqb x.1.arrival a) (lying_from (judged s) 0 vs))) o e
+  pub found : (a : ℕ) (o : Option ℕ) → o ≡ place_of (first_of (λ x. eqb x.1.arrival a) (lying_from s 0 vs)) → FindRule b a (ok_or ArrivalNotKept o)
+  found a o e = read (λ t ws. place_of (first_of (λ x. eqb x.1.arrival a) (lying_from t 0 ws))) o e
 
-  pub handed : (at : ℕ) (o : Option P) → o ≡ piece_of (first_of (λ x. eqb x.0 at) (lying_from (judged s) 0 (seen_rows s live xs)))
-      → HandOutRule (standing s rows p d xs) at (ok_or ArrivalNotKept o)
-  handed at o e = read (λ vs. piece_of (first_of (λ x. eqb x.0 at) (lying_from (judged s) 0 vs))) o e
+  pub handed : (at : ℕ) (o : Option P) → o ≡ piece_of (first_of (λ x. eqb x.0 at) (lying_from s 0 vs)) → HandOutRule b at (ok_or ArrivalNotKept o)
+  handed at o e = read (λ t ws. piece_of (first_of (λ x. eqb x.0 at) (lying_from t 0 ws))) o e
+
+-- radii with these rows and places are seen so
+pub seen-radii : {P : Type 0} (s t : Settings) (rows rs : List Row) (places xs : List (Place P)) → t ≡ s → rs ≡ rows → xs ≡ places → seen_rows t rs xs ≡ seen_rows s rows places
+seen-radii s t rows rs places xs e1 e2 e3 =
+    ap (λ (u : Settings). seen_rows u rs xs) e1 ∙ ap (λ (ys : List Row). seen_rows s ys xs) e2 ∙ ap (seen_rows s rows) e3
 
 -- the rows of the radii are within their parts, and their parts lie on the shelf
 pub live_within : (s : Settings) (n : ℕ) (rows live : List Row) → n ≤ 24 → live ≡ take n rows → RowsWithin s rows → n ≤ length rows

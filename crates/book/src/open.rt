@@ -10,6 +10,7 @@ use std::marker::PhantomData;
 #[derive(Drop)]
 pub struct Book<P> {
     pub(crate) settings: Settings,
+    // No heap: room for 24 rows, of which `count` are used.
     pub(crate) rows: [Row; 24],
     pub(crate) count: usize,
     pub(crate) posts: u32,

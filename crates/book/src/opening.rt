@@ -1,6 +1,6 @@
 //! From three numbers to an open book.
 
-ghost use Rattle.std.specs.Prelude.{◌≡◌, ℕ, ◌≤◌, false, ◌&&◌, List, [], ◌∷◌, map, length, is_ok, nat_le};
+ghost use Rattle.std.specs.Prelude.{◌≡◌, ℕ, ◌≤◌, false, ◌&&◌, List, [], ◌∷◌, length, is_ok, nat_le, Ok};
 ghost use Rattle.cover.specs.Distances.{Distance};
 ghost use Rattle.refusal.specs.Makes.{MadeIf};
 ghost use Rattle.refusal.specs.declared.Refusal.TheVariants.{SettingOutOfRange};
@@ -8,6 +8,7 @@ ghost use Rattle.row.specs.Seen.{judged};
 ghost use Rattle.rules.specs.Calls.{BeginRule, OpenRule, RadiusRule, why_not_radius};
 ghost use Rattle.rules.specs.Limits.{Judged, allowed, greatest_radius};
 ghost use Rattle.rules.specs.Runs.{Begin, Event, Open, Opened, Radius, Reached, SettingUp};
+ghost use Rattle.rules.specs.Words.{after};
 ghost use Rattle.rules.specs.declared.place.Place.{Place};
 ghost use Rattle.term.specs.Formulas.{Rule};
 ghost use Rattle.book.specs.Rows.{empty_row};
@@ -26,6 +27,7 @@ pub fn judge(k: u32, fineness: u32, limit: u32) -> Result<Settings, Refusal>
     if k < 1 || k > 12 || fineness < 2 || fineness > 64 || limit < 1 || limit > 64 {
         return Err(Refusal::SettingOutOfRange);
     }
+    // Casts, which are proved to lose nothing: a conversion would answer an error that cannot come.
     Ok(Settings {
         k: k as usize,
         fineness,
@@ -54,25 +56,24 @@ impl<P> Setup<P> {
         ensures same { is_ok result ≡ false → self.new ≡ self.old }
         ensures run { (dist : Distance P) (counts : Rule) (es : List (Event P)) → Reached dist counts es (SettingUp (setting_up self.old)) → Reached dist counts (Radius radius result ∷ es) (SettingUp (setting_up self.new)) }
     {
-        if let Some(why) = self.why_not(radius) {
-            return Err(why);
-        }
+        self.may_enter(radius)?;
         self.radii[self.count] = radius;
         self.count += 1;
         Ok(())
     }
 
-    fn why_not(&self, radius: u32) -> Option<Refusal>
-        ensures { result ≡ why_not_radius (setting_up self.now) radius }
+    /// Refuses what the entry of a radius is refused for.
+    fn may_enter(&self, radius: u32) -> Result<(), Refusal>
+        ensures { result ≡ after (why_not_radius (setting_up self.now) radius) (Ok tt) }
     {
         if self.count >= 24 {
-            return Some(Refusal::RadiusListFull);
+            return Err(Refusal::RadiusListFull);
         }
         let last = self.radii[self.count - 1];
         if !may_follow(last, radius) {
-            return Some(Refusal::RadiusNotAllowed);
+            return Err(Refusal::RadiusNotAllowed);
         }
-        None
+        Ok(())
     }
 
     /// Opens the book, with no post made and on day 0. Its shelf may have any places and hold anything.
@@ -86,10 +87,9 @@ impl<P> Setup<P> {
             count,
             kind,
         } = self;
-        let rows = rows_of(&radii);
         Book {
             settings,
-            rows,
+            rows: radii.map(empty_row),
             count,
             posts: 0,
             day: 0,
@@ -106,25 +106,15 @@ fn may_follow(last: u32, radius: u32) -> bool
     radius > last && radius <= (last + 1).max(2 * last) && radius <= 1_000_000
 }
 
-/// Rows of these radii with nothing in them.
-fn rows_of(radii: &[u32; 24]) -> [Row; 24]
-    ensures { result ≡ map empty_row radii.now }
+/// The row of a radius with nothing in it.
+fn empty_row(radius: u32) -> Row
+    ensures { result ≡ empty_row radius }
 {
-    let mut rows = [Row {
-        radius: 0,
+    Row {
+        radius,
         attractors: 0,
         representatives: 0,
         entries: 0,
         lost: None,
-    }; 24];
-    for j in 0..24 {
-        rows[j] = Row {
-            radius: radii[j],
-            attractors: 0,
-            representatives: 0,
-            entries: 0,
-            lost: None,
-        };
     }
-    rows
 }

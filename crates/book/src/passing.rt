@@ -13,26 +13,40 @@ ghost use Rattle.std.specs.List.{AllByRecursion as Every};
 ghost use Rattle.book.specs.Seen.{Surplus, seen};
 
 use crate::open::Book;
+use picking::Radii;
 use refusal::Refusal;
-use row::{Expiring, Posting, Row};
+use row::{Expiring, Posting};
 use rules::Place;
 use shelf::Shelf;
 use tape::Tape;
 use term::{Clock, Term};
 
 impl<P> Book<P> {
-    /// The rows of its radii.
-    pub(crate) fn live_rows(&self) -> &[Row]
-        ensures { result.now ≡ take self.now.count self.now.rows }
+    /// Its radii on a shelf that is long enough.
+    pub(crate) fn radii<'a>(&'a self, shelf: &'a Shelf<'_, P>) -> Radii<'a, P>
+        requires { false ≡ short (seen self.now shelf.now.places.now) }
+        ensures rows { result.rows.now ≡ take self.now.count self.now.rows }
+        ensures places { result.places.now ≡ shelf.now.places.now }
+        ensures settings { result.settings ≡ self.now.settings }
     {
-        &self.rows[0..self.count]
+        shelf.radii(&self.rows[..self.count], self.settings)
+    }
+
+    /// Its last post and its day.
+    pub(crate) fn clock(&self) -> Clock
+        ensures { result ≡ record { posts = self.now.posts; day = self.now.day } }
+    {
+        Clock {
+            posts: self.posts,
+            day: self.day,
+        }
     }
 
     /// Whether a shelf of so many places is too short.
     pub(crate) fn is_short(&self, places: usize) -> bool
         ensures { (xs : List (Place P)) → length xs ≡ places → result ≡ short (seen self.now xs) }
     {
-        places < self.count * (3 * self.settings.k + 3 + 2 * self.settings.limit)
+        places < self.count * self.settings.part_size()
     }
 
     /// Whether a day is refused.
@@ -42,31 +56,33 @@ impl<P> Book<P> {
         day < self.day || day > 1_000_000
     }
 
-    fn why_not_post(&self, places: usize, day: u32) -> Option<Refusal>
-        ensures { (xs : List (Place P)) → length xs ≡ places → result ≡ why_not_post (seen self.now xs) day }
+    /// Refuses what a post with so many places and a day is refused for.
+    fn may_post(&self, places: usize, day: u32) -> Result<(), Refusal>
+        ensures { (xs : List (Place P)) → length xs ≡ places → result ≡ after (why_not_post (seen self.now xs) day) (Ok tt) }
     {
         if self.is_short(places) {
-            return Some(Refusal::ShelfTooShort);
+            return Err(Refusal::ShelfTooShort);
         }
         if self.posts >= 1_000_000 {
-            return Some(Refusal::PostsUsedUp);
+            return Err(Refusal::PostsUsedUp);
         }
         if self.is_bad_day(day) {
-            return Some(Refusal::DayNotAllowed);
+            return Err(Refusal::DayNotAllowed);
         }
-        None
+        Ok(())
     }
 
-    fn why_not_turn(&self, places: usize, day: u32) -> Option<Refusal>
-        ensures { (xs : List (Place P)) → length xs ≡ places → result ≡ why_not_turn (seen self.now xs) day }
+    /// The same of a turn of the day.
+    fn may_turn(&self, places: usize, day: u32) -> Result<(), Refusal>
+        ensures { (xs : List (Place P)) → length xs ≡ places → result ≡ after (why_not_turn (seen self.now xs) day) (Ok tt) }
     {
         if self.is_short(places) {
-            return Some(Refusal::ShelfTooShort);
+            return Err(Refusal::ShelfTooShort);
         }
         if self.is_bad_day(day) {
-            return Some(Refusal::DayNotAllowed);
+            return Err(Refusal::DayNotAllowed);
         }
-        None
+        Ok(())
     }
 }
 
@@ -88,9 +104,7 @@ impl<P: Copy> Book<P> {
         ensures room { (es : List (Event P)) → Reached (T.Tape.dist tape.now) (W.Term.counts term.now) es (Opened (seen self.old shelf.old.places.now)) → Served (story es) (Post piece day result) × Fits (Opened (seen self.new shelf.new.places.now)) }
         ensures lent { shelf.new.places.ghost_name ≡ shelf.old.places.ghost_name }
     {
-        if let Some(why) = self.why_not_post(shelf.len(), day) {
-            return Err(why);
-        }
+        self.may_post(shelf.len(), day)?;
         self.posts += 1;
         self.day = day;
         let place = Place {
@@ -117,20 +131,10 @@ impl<P: Copy> Book<P> {
         ensures room { (dist : Distance P) → Metric dist → (es : List (Event P)) → Reached dist (W.Term.counts term.now) es (Opened (seen self.old shelf.old.places.now)) → Served (story es) (Turn day result) × Fits (Opened (seen self.new shelf.new.places.now)) }
         ensures lent { shelf.new.places.ghost_name ≡ shelf.old.places.ghost_name }
     {
-        if let Some(why) = self.why_not_turn(shelf.len(), day) {
-            return Err(why);
-        }
+        self.may_turn(shelf.len(), day)?;
         self.day = day;
-        self.change_rows(
-            shelf.places,
-            &Expiring {
-                term,
-                clock: Clock {
-                    posts: self.posts,
-                    day,
-                },
-            },
-        );
+        let clock = self.clock();
+        self.change_rows(shelf.places, &Expiring { term, clock });
         Ok(())
     }
 }

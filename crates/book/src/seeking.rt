@@ -10,6 +10,7 @@ ghost use Rattle.term.specs.Formulas.{Rule};
 ghost use Rattle.book.specs.Seen.{seen};
 
 use crate::open::Book;
+use finding::{find_place, piece_at};
 use refusal::Refusal;
 use shelf::Shelf;
 
@@ -23,10 +24,7 @@ impl<P: Copy> Book<P> {
         if self.is_short(shelf.len()) {
             return Err(Refusal::ShelfTooShort);
         }
-        match shelf.find_place(self.live_rows(), self.settings, arrival) {
-            Some(place) => Ok(place),
-            None => Err(Refusal::ArrivalNotKept),
-        }
+        find_place(&self.radii(shelf), arrival).ok_or(Refusal::ArrivalNotKept)
     }
 
     /// The piece at a place that those lists use.
@@ -38,9 +36,6 @@ impl<P: Copy> Book<P> {
         if self.is_short(shelf.len()) {
             return Err(Refusal::ShelfTooShort);
         }
-        match shelf.piece_at(self.live_rows(), self.settings, at) {
-            Some(piece) => Ok(piece),
-            None => Err(Refusal::ArrivalNotKept),
-        }
+        piece_at(&self.radii(shelf), at).ok_or(Refusal::ArrivalNotKept)
     }
 }

@@ -9,6 +9,7 @@ use std::marker::PhantomData;
 #[derive(Drop)]
 pub struct Setup<P> {
     pub(crate) settings: Settings,
+    // No heap: room for 24 radii, of which `count` are used.
     pub(crate) radii: [u32; 24],
     pub(crate) count: usize,
     pub(crate) kind: PhantomData<P>,

@@ -27,9 +27,8 @@ impl<P: Copy> Book<P> {
         ensures surplus { drop (self.old.count * part_size (judged self.old.settings)) places.new ≡ drop (self.old.count * part_size (judged self.old.settings)) places.old }
     {
         let settings = self.settings;
-        let size = 3 * settings.k + 3 + 2 * settings.limit;
         let mut row = self.rows[j];
-        change_at(&mut row, places, j * size, settings, change);
+        change_at(&mut row, places, j * settings.part_size(), settings, change);
         self.rows[j] = row;
     }
 
@@ -44,6 +43,7 @@ impl<P: Copy> Book<P> {
         ensures rest { drop self.old.count self.new.rows ≡ drop self.old.count self.old.rows }
         ensures surplus { drop (self.old.count * part_size (judged self.old.settings)) places.new ≡ drop (self.old.count * part_size (judged self.old.settings)) places.old }
     {
+        // By the index: a row and its part of the shelf are found by it.
         let n = self.count;
         for j in 0..n {
             self.change_row(places, j, change);

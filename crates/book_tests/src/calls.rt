@@ -3,6 +3,7 @@
 use book::{Book, Setup, Shelf, judge};
 use refusal::Refusal;
 use rules::{Grain, Picked, Place};
+use std::fmt::Debug;
 use std::process::Abort;
 use std::test::Fail;
 use tape::Tape;
@@ -10,17 +11,38 @@ use term::Term;
 
 /// A call of an open book, with the answer that it must give.
 ///
-/// `Pick` has the grain, the number of centres, the radius, the floor, and the centres' arrivals at the front of an
-/// answer list of three zeros. `PickWithin` has an answer list and a work list of the lengths given.
-#[derive(Clone, Copy)]
+/// `Pick` has the pick, and the numbers that it leaves in an answer list of three zeros. `PickWithin` has an answer list
+/// and a work list of the lengths given, at most 3 and 64.
+#[derive(Clone, Copy, PartialEq, Eq, Debug)]
 pub enum Call<P> {
     Post(P, u32, Result<(), Refusal>),
     Turn(u32, Result<(), Refusal>),
-    Pick(Grain, usize, u32, Option<u32>, [u32; 3]),
-    NoPick(Refusal),
+    Pick(Result<Picked, Refusal>, [u32; 3]),
     PickWithin(usize, usize, Option<Refusal>),
     Find(u32, Result<usize, Refusal>),
     HandOut(usize, Result<P, Refusal>),
+}
+
+/// A pick that is answered, with the centres' arrivals at the front of the answer list.
+pub fn pick<P>(
+    grain: Grain,
+    count: usize,
+    radius: u32,
+    floor: Option<u32>,
+    centres: [u32; 3],
+) -> Call<P> {
+    let picked = Picked {
+        count,
+        radius,
+        floor,
+        grain,
+    };
+    Call::Pick(Ok(picked), centres)
+}
+
+/// A pick that is refused, and leaves the answer list as it was.
+pub fn no_pick<P>(why: Refusal) -> Call<P> {
+    Call::Pick(Err(why), [0; 3])
 }
 
 /// An open book with these settings, k, the fineness and the fine limit, and these radii after 0.
@@ -33,150 +55,40 @@ pub fn open<P>(settings: (u32, u32, u32), radii: &[u32]) -> Result<Book<P>, Refu
     Ok(setup.open())
 }
 
-/// Checks what a pick answers, and what it leaves in an answer list of three zeros. Its work list suffices for every
-/// book.
-fn check_pick<P: Copy, T: Tape<P>, W: Term>(
-    rt: &impl Abort,
-    book: &Book<P>,
-    shelf: &Shelf<'_, P>,
-    tape: &T,
-    term: &W,
-    wanted: Result<Picked, Refusal>,
-    centres: [u32; 3],
-    number: usize,
-) -> Result<(), Fail> {
-    let mut answers = [0; 3];
-    let mut work = [0; 64];
-    let answer = book.pick(shelf, tape, term, &mut answers, &mut work);
-    assert_eq!(rt;
-        (answer, answers),
-        (wanted, centres),
-        "call {number}, counting from 0"
-    );
-    Ok(())
-}
-
-/// Why a pick with lists of these lengths is refused. They are at most 3 and 64.
-fn why_not_pick<P: Copy, T: Tape<P>, W: Term>(
-    book: &Book<P>,
-    shelf: &Shelf<'_, P>,
-    tape: &T,
-    term: &W,
-    answers: usize,
-    work: usize,
-) -> Option<Refusal> {
-    let mut answer_list = [0; 3];
-    let mut work_list = [0; 64];
-    let answers = &mut answer_list[0..answers.min(3)];
-    let work = &mut work_list[0..work.min(64)];
-    book.pick(shelf, tape, term, answers, work).err()
-}
-
-/// Checks that a piece was handed out, or refused, as wanted. Pieces are the same if the tape says 0.
-fn check_piece<P: Copy, T: Tape<P>>(
-    rt: &impl Abort,
-    tape: &T,
-    handed: Result<P, Refusal>,
-    wanted: Result<P, Refusal>,
-    number: usize,
-) -> Result<(), Fail> {
-    match (handed, wanted) {
-        (Ok(handed), Ok(wanted)) => {
-            assert_eq!(rt;
-                tape.measure(&handed, &wanted),
-                0,
-                "call {number}, counting from 0"
-            );
-            Ok(())
-        },
-        (handed, wanted) => {
-            assert_eq!(rt;
-                handed.err(),
-                wanted.err(),
-                "call {number}, counting from 0"
-            );
-            Ok(())
-        },
-    }
-}
-
-/// Makes a call that only reads.
-fn read<P: Copy, T: Tape<P>, W: Term>(
-    rt: &impl Abort,
-    book: &Book<P>,
-    shelf: &Shelf<'_, P>,
-    tape: &T,
-    term: &W,
-    call: Call<P>,
-    number: usize,
-) -> Result<(), Fail> {
-    match call {
-        Call::Pick(grain, count, radius, floor, centres) => {
-            let picked = Picked {
-                count,
-                radius,
-                floor,
-                grain,
-            };
-            check_pick(rt, book, shelf, tape, term, Ok(picked), centres, number)
-        }
-        Call::NoPick(why) => check_pick(rt, book, shelf, tape, term, Err(why), [0; 3], number),
-        Call::PickWithin(answers, work, wanted) => {
-            let why = why_not_pick(book, shelf, tape, term, answers, work);
-            assert_eq!(rt; why, wanted, "call {number}, counting from 0");
-            Ok(())
-        }
-        Call::Find(arrival, wanted) => {
-            assert_eq!(rt;
-                book.find(shelf, arrival),
-                wanted,
-                "call {number}, counting from 0"
-            );
-            Ok(())
-        },
-        Call::HandOut(at, wanted) => check_piece(
-            rt,
-            tape,
-            book.hand_out(shelf, at),
-            wanted,
-            number,
-        ),
-        Call::Post(..) | Call::Turn(..) => Err(Fail::new("it changes the book")),
-    }
-}
-
-fn make<P: Copy, T: Tape<P>, W: Term>(
-    rt: &impl Abort,
+/// Makes a call. It comes back with the answer that it got in place of the one that it must give.
+// No struct of book, shelf, tape and term: it was tried, and of a `&mut` in its field the borrow is not proved.
+fn made<P: Copy, T: Tape<P>, W: Term>(
     book: &mut Book<P>,
     shelf: &mut Shelf<'_, P>,
     tape: &T,
     term: &W,
     call: Call<P>,
-    number: usize,
-) -> Result<(), Fail> {
+) -> Call<P> {
     match call {
-        Call::Post(piece, day, wanted) => {
-            assert_eq!(rt;
-                book.post(shelf, tape, term, piece, day),
-                wanted,
-                "call {number}, counting from 0"
-            );
-            Ok(())
+        Call::Post(piece, day, _) => {
+            Call::Post(piece, day, book.post(shelf, tape, term, piece, day))
         }
-        Call::Turn(day, wanted) => {
-            assert_eq!(rt;
-                book.turn(shelf, term, day),
-                wanted,
-                "call {number}, counting from 0"
-            );
-            Ok(())
-        },
-        _ => read(rt, book, shelf, tape, term, call, number),
+        Call::Turn(day, _) => Call::Turn(day, book.turn(shelf, term, day)),
+        Call::Pick(..) => {
+            let mut answers = [0; 3];
+            let picked = book.pick(shelf, tape, term, &mut answers, &mut [0; 64]);
+            Call::Pick(picked, answers)
+        }
+        Call::PickWithin(answers, work, _) => {
+            let mut answer_list = [0; 3];
+            let mut work_list = [0; 64];
+            let answer_list = &mut answer_list[..answers.min(3)];
+            let work_list = &mut work_list[..work.min(64)];
+            let picked = book.pick(shelf, tape, term, answer_list, work_list);
+            Call::PickWithin(answers, work, picked.err())
+        }
+        Call::Find(arrival, _) => Call::Find(arrival, book.find(shelf, arrival)),
+        Call::HandOut(at, _) => Call::HandOut(at, book.hand_out(shelf, at)),
     }
 }
 
 /// Makes the calls in order, with these places for a shelf, and checks each answer.
-pub fn follow<P: Copy, T: Tape<P>, W: Term>(
+pub fn follow<P: Copy + PartialEq + Debug, T: Tape<P>, W: Term>(
     rt: &impl Abort,
     book: &mut Book<P>,
     places: &mut [Place<P>],
@@ -185,16 +97,15 @@ pub fn follow<P: Copy, T: Tape<P>, W: Term>(
     calls: &[Call<P>],
 ) -> Result<(), Fail> {
     let mut shelf = Shelf { places };
-    let mut number = 0usize;
-    for call in calls {
-        make(rt, book, &mut shelf, tape, term, *call, number)?;
-        number = number.saturating_add(1);
+    for (number, call) in calls.iter().enumerate() {
+        let answered = made(book, &mut shelf, tape, term, *call);
+        assert_eq!(rt; answered, *call, "call {number}, counting from 0");
     }
     Ok(())
 }
 
 /// The same from the opening of a book on.
-pub fn follow_new<P: Copy, T: Tape<P>, W: Term>(
+pub fn follow_new<P: Copy + PartialEq + Debug, T: Tape<P>, W: Term>(
     rt: &impl Abort,
     settings: (u32, u32, u32),
     radii: &[u32],

@@ -1,7 +1,7 @@
 //! What an open book refuses, and that it serves what is just within the edge.
 
-use crate::calls::{Call, follow, follow_new, open};
-use crate::panels::{all, same, stray};
+use crate::calls::{Call, follow, follow_new, no_pick, open, pick};
+use crate::panels::{all, stray};
 use book::Shelf;
 use refusal::Refusal;
 use rules::{Grain, Place};
@@ -22,14 +22,14 @@ fn a_shelf_one_place_short_is_refused_and_one_with_all_places_served(
     let refused = [
         Call::Post(all(0), 1_000_001, Err(short)),
         Call::Turn(1_000_001, Err(short)),
-        Call::NoPick(short),
+        no_pick(short),
         Call::Find(1, Err(short)),
         Call::HandOut(0, Err(short)),
     ];
     let served = [
         Call::Post(all(0), 1, Ok(())),
         Call::Turn(2, Ok(())),
-        Call::Pick(Grain::Fine, 1, 0, None, [1, 0, 0]),
+        pick(Grain::Fine, 1, 0, None, [1, 0, 0]),
         Call::Find(1, Ok(0)),
         Call::HandOut(0, Ok(all(0))),
     ];
@@ -45,22 +45,22 @@ fn days_go_on_up_to_a_million_and_an_empty_window_is_not_picked(
     let mut places = [stray(); 8];
     let bad = Err(Refusal::DayNotAllowed);
     let calls = [
-        Call::NoPick(Refusal::NothingCounts),
+        no_pick(Refusal::NothingCounts),
         Call::Post(all(0), 5, Ok(())),
-        Call::Pick(Grain::Fine, 1, 0, None, [1, 0, 0]),
+        pick(Grain::Fine, 1, 0, None, [1, 0, 0]),
         Call::Post(all(0), 4, bad),
         Call::Turn(4, bad),
         Call::Turn(5, Ok(())),
-        Call::Pick(Grain::Fine, 1, 0, None, [1, 0, 0]),
+        pick(Grain::Fine, 1, 0, None, [1, 0, 0]),
         Call::Turn(6, Ok(())),
-        Call::NoPick(Refusal::NothingCounts),
+        no_pick(Refusal::NothingCounts),
         Call::Find(1, Err(Refusal::ArrivalNotKept)),
         Call::Turn(1_000_001, bad),
         Call::Post(all(1), 1_000_001, bad),
         Call::Turn(1_000_000, Ok(())),
         Call::Post(all(1), 999_999, bad),
         Call::Post(all(1), 1_000_000, Ok(())),
-        Call::Pick(Grain::Fine, 1, 0, None, [2, 0, 0]),
+        pick(Grain::Fine, 1, 0, None, [2, 0, 0]),
         Call::Turn(999_999, bad),
         Call::Turn(1_000_001, bad),
     ];
@@ -105,7 +105,7 @@ fn refused_calls_leave_book_and_shelf_and_served_ones_the_surplus(
     let mut book = open((2, 2, 3), &[1])?;
     let term = ByDays::new(2)?;
     let mut places = [stray(); 35];
-    let picked = Call::Pick(Grain::Fine, 2, 0, None, [1, 2, 0]);
+    let picked = pick(Grain::Fine, 2, 0, None, [1, 2, 0]);
     let served = [
         Call::Post(all(0), 1, Ok(())),
         Call::Post(all(9), 2, Ok(())),
@@ -123,8 +123,8 @@ fn refused_calls_leave_book_and_shelf_and_served_ones_the_surplus(
     follow(&rt, &mut book, &mut places, &HullTape, &term, &served)?;
     let before = places;
     follow(&rt, &mut book, &mut places, &HullTape, &term, &refused)?;
-    assert!(rt; same(&places, &before));
-    assert!(rt; same(&places[30..35], &[stray(); 5]));
+    assert!(rt; places == before);
+    assert!(rt; places[30..35] == [stray(); 5][..]);
     Ok(())
 }
 

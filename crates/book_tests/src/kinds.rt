@@ -1,10 +1,11 @@
 //! The same calls for other kinds of pieces, tapes and terms.
 
-use crate::calls::{Call, follow_new};
+use crate::calls::{Call, follow_new, no_pick, pick};
 use crate::panels::all;
 use grade::{CheckedTable, Grade, GradeTape};
 use refusal::Refusal;
 use rules::{Grain, Place};
+use std::array;
 use std::process::Abort;
 use std::test::Fail;
 use tape::{Cut, HullTape, Joined, JoinedTape, Panel};
@@ -12,15 +13,10 @@ use term::{Both, ByDays, ByNumber, Either, Term};
 
 /// A table in which grades are `step` apart for each step of the grade.
 fn table_of(step: u32) -> [u32; 256] {
-    let mut numbers = [0; 256];
-    for row in 0..16u32 {
-        for column in 0..16u32 {
-            numbers[row as usize * 16 + column as usize] = row
-                .abs_diff(column)
-                .saturating_mul(step);
-        }
-    }
-    numbers
+    array::from_fn(|at| {
+        let (row, column) = (at / 16 % 16, at % 16);
+        (row.abs_diff(column) as u32).saturating_mul(step)
+    })
 }
 
 fn grade_tape(step: u32) -> Result<GradeTape, Refusal> {
@@ -78,29 +74,29 @@ fn boards_count_by_number_and_days_both(rt: HostRuntime) -> Result<(), Fail> {
         Call::Post(board(0, 0), 1, Ok(())),
         Call::Post(board(1, 0), 1, Ok(())),
         Call::Post(board(0, 1), 1, Ok(())),
-        Call::Pick(Grain::Fine, 2, 1, Some(0), [1, 3, 0]),
+        pick(Grain::Fine, 2, 1, Some(0), [1, 3, 0]),
         Call::Post(board(40, 5), 2, Ok(())),
-        Call::Pick(Grain::Fine, 2, 12, Some(2), [2, 3, 0]),
+        pick(Grain::Fine, 2, 12, Some(2), [2, 3, 0]),
         Call::Find(1, Err(gone)),
         Call::Find(3, Ok(1)),
         Call::HandOut(1, Ok(board(0, 1))),
         Call::HandOut(66, Ok(board(40, 5))),
         Call::Turn(3, Ok(())),
-        Call::Pick(Grain::Fine, 1, 0, None, [4, 0, 0]),
+        pick(Grain::Fine, 1, 0, None, [4, 0, 0]),
         Call::Find(3, Err(gone)),
         Call::HandOut(0, Ok(board(40, 5))),
         Call::HandOut(1, Err(gone)),
         Call::Post(board(2, 1), 3, Ok(())),
-        Call::Pick(Grain::Fine, 2, 0, None, [4, 5, 0]),
+        pick(Grain::Fine, 2, 0, None, [4, 5, 0]),
         Call::Post(board(3, 1), 3, Ok(())),
         Call::Post(board(4, 1), 3, Ok(())),
-        Call::Pick(Grain::Fine, 2, 1, Some(0), [5, 7, 0]),
+        pick(Grain::Fine, 2, 1, Some(0), [5, 7, 0]),
         Call::Find(4, Err(gone)),
         Call::HandOut(20, Ok(board(4, 1))),
         Call::Turn(4, Ok(())),
-        Call::Pick(Grain::Fine, 2, 1, Some(0), [5, 7, 0]),
+        pick(Grain::Fine, 2, 1, Some(0), [5, 7, 0]),
         Call::Turn(5, Ok(())),
-        Call::NoPick(Refusal::NothingCounts),
+        no_pick(Refusal::NothingCounts),
     ];
     follow_boards(&rt, &term, &calls)
 }
@@ -116,25 +112,25 @@ fn boards_count_by_number_or_days_either(rt: HostRuntime) -> Result<(), Fail> {
         Call::Post(board(0, 0), 1, Ok(())),
         Call::Post(board(1, 0), 1, Ok(())),
         Call::Post(board(0, 1), 1, Ok(())),
-        Call::Pick(Grain::Fine, 2, 1, Some(0), [1, 3, 0]),
+        pick(Grain::Fine, 2, 1, Some(0), [1, 3, 0]),
         Call::Post(board(40, 5), 2, Ok(())),
-        Call::Pick(Grain::Fine, 2, 12, Some(2), [2, 3, 0]),
+        pick(Grain::Fine, 2, 12, Some(2), [2, 3, 0]),
         Call::Find(1, Ok(17)),
         Call::HandOut(17, Ok(board(0, 0))),
         Call::Turn(3, Ok(())),
-        Call::Pick(Grain::Fine, 2, 0, None, [3, 4, 0]),
+        pick(Grain::Fine, 2, 0, None, [3, 4, 0]),
         Call::Find(1, Err(gone)),
         Call::Post(board(2, 1), 3, Ok(())),
-        Call::Pick(Grain::Fine, 2, 0, None, [4, 5, 0]),
+        pick(Grain::Fine, 2, 0, None, [4, 5, 0]),
         Call::Post(board(3, 1), 3, Ok(())),
         Call::Post(board(4, 1), 3, Ok(())),
-        Call::Pick(Grain::Fine, 2, 2, Some(0), [4, 5, 0]),
+        pick(Grain::Fine, 2, 2, Some(0), [4, 5, 0]),
         Call::Find(4, Ok(17)),
         Call::HandOut(17, Ok(board(40, 5))),
         Call::Turn(4, Ok(())),
-        Call::Pick(Grain::Fine, 2, 1, Some(0), [5, 7, 0]),
+        pick(Grain::Fine, 2, 1, Some(0), [5, 7, 0]),
         Call::Turn(5, Ok(())),
-        Call::Pick(Grain::Fine, 2, 0, None, [6, 7, 0]),
+        pick(Grain::Fine, 2, 0, None, [6, 7, 0]),
         Call::Find(6, Ok(0)),
         Call::HandOut(0, Ok(board(3, 1))),
     ];
@@ -152,17 +148,17 @@ fn sheets_are_picked_by_a_checked_table(rt: HostRuntime) -> Result<(), Fail> {
     let calls = [
         Call::Post(Grade { number: 3 }, 1, Ok(())),
         Call::Post(Grade { number: 4 }, 1, Ok(())),
-        Call::Pick(Grain::Fine, 1, 2, Some(0), [1, 0, 0]),
+        pick(Grain::Fine, 1, 2, Some(0), [1, 0, 0]),
         Call::Post(Grade { number: 6 }, 2, Ok(())),
-        Call::Pick(Grain::Fine, 1, 8, Some(2), [2, 0, 0]),
+        pick(Grain::Fine, 1, 8, Some(2), [2, 0, 0]),
         Call::Find(2, Ok(0)),
         Call::HandOut(0, Ok(Grade { number: 4 })),
         Call::Turn(3, Ok(())),
-        Call::Pick(Grain::Fine, 1, 0, None, [3, 0, 0]),
+        pick(Grain::Fine, 1, 0, None, [3, 0, 0]),
         Call::Post(Grade { number: 15 }, 3, Ok(())),
-        Call::NoPick(Refusal::NoRadiusPasses),
+        no_pick(Refusal::NoRadiusPasses),
         Call::Turn(4, Ok(())),
-        Call::Pick(Grain::Fine, 1, 0, None, [4, 0, 0]),
+        pick(Grain::Fine, 1, 0, None, [4, 0, 0]),
         Call::Find(4, Ok(0)),
         Call::HandOut(0, Ok(Grade { number: 15 })),
     ];

@@ -19,23 +19,3 @@ pub fn stray() -> Place<Panel> {
         attractor: 1,
     }
 }
-
-/// Whether the same numbers lie at all places.
-pub fn same(a: &[Place<Panel>], b: &[Place<Panel>]) -> bool {
-    if a.len() != b.len() {
-        return false;
-    }
-    for i in 0..a.len() {
-        if !same_place(&a[i], &b[i]) {
-            return false;
-        }
-    }
-    true
-}
-
-fn same_place(a: &Place<Panel>, b: &Place<Panel>) -> bool {
-    a.piece.offsets == b.piece.offsets
-        && a.arrival == b.arrival
-        && a.day == b.day
-        && a.attractor == b.attractor
-}

@@ -1,6 +1,6 @@
 //! The worked feed: hull panels, one centre, the last three panels count.
 
-use crate::calls::{Call, follow_new, open};
+use crate::calls::{Call, follow_new, no_pick, open, pick};
 use crate::panels::{all, stray};
 use book::{Book, Shelf};
 use refusal::Refusal;
@@ -15,11 +15,11 @@ fn the_worked_feed_is_picked_as_written(rt: HostRuntime) -> Result<(), Fail> {
     let calls = [
         Call::Post(all(0), 1, Ok(())),
         Call::Post(all(3), 1, Ok(())),
-        Call::Pick(Grain::Fine, 1, 5, Some(1), [1, 0, 0]),
+        pick(Grain::Fine, 1, 5, Some(1), [1, 0, 0]),
         Call::Post(all(10), 1, Ok(())),
-        Call::NoPick(Refusal::NoRadiusPasses),
+        no_pick(Refusal::NoRadiusPasses),
         Call::Post(all(4), 1, Ok(())),
-        Call::Pick(Grain::Fine, 1, 10, Some(2), [4, 0, 0]),
+        pick(Grain::Fine, 1, 10, Some(2), [4, 0, 0]),
         Call::Post(all(0), 0, Err(Refusal::DayNotAllowed)),
         Call::Find(4, Ok(1)),
         Call::HandOut(1, Ok(all(4))),
@@ -107,10 +107,10 @@ fn with_one_fine_entry_it_is_coarse_until_the_lost_panel_no_longer_counts(
     let calls = [
         Call::Post(all(0), 1, Ok(())),
         Call::Post(all(3), 1, Ok(())),
-        Call::Pick(Grain::Coarse, 1, 8, Some(1), [2, 0, 0]),
+        pick(Grain::Coarse, 1, 8, Some(1), [2, 0, 0]),
         Call::Post(all(3), 1, Ok(())),
         Call::Post(all(3), 1, Ok(())),
-        Call::Pick(Grain::Fine, 1, 0, None, [4, 0, 0]),
+        pick(Grain::Fine, 1, 0, None, [4, 0, 0]),
     ];
     follow_new(
         &rt,

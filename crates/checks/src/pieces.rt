@@ -2,6 +2,7 @@
 
 use grade::{CheckedTable, Grade, GradeTape};
 use refusal::Refusal;
+use std::array;
 use std::test::Fail;
 use tape::{Cut, HullTape, Joined, JoinedTape, JoineryTape, Panel, Part, Tape};
 
@@ -13,11 +14,7 @@ fn one_apart() -> Result<GradeTape, Refusal> {
 }
 
 fn ones() -> [u32; 256] {
-    let mut numbers = [1; 256];
-    for grade in 0..16usize {
-        numbers[grade * 17] = 0;
-    }
-    numbers
+    array::from_fn(|at| if at / 16 == at % 16 { 0 } else { 1 })
 }
 
 #[test]

@@ -2,17 +2,15 @@
 
 use grade::CheckedTable;
 use refusal::{Breach, Refusal};
+use std::array;
 use std::test::Fail;
 
 /// A lawful table: grades are 7 apart for each step.
 fn lawful() -> [u32; 256] {
-    let mut numbers = [0; 256];
-    for row in 0..16u32 {
-        for column in 0..16u32 {
-            numbers[row as usize * 16 + column as usize] = 7 * row.abs_diff(column);
-        }
-    }
-    numbers
+    array::from_fn(|at| {
+        let (row, column) = (at / 16 % 16, at % 16);
+        7 * row.abs_diff(column) as u32
+    })
 }
 
 /// What a new table says to the numbers.

@@ -10,7 +10,7 @@ use Rattle.command.proofs.Words.{num32, num64, nums, num32_be32, num64_be64, num
 -- the command that begins a list
 back : List ℕ → Command
 back xs =
-    cond (eqb (get_or xs 0 0) 0x53) (Settings (get_or xs 1 0) (get_or xs 2 0) (get_or xs 3 0) (get_or xs 4 0) (get_or xs 5 0) (num32 (drop 6 xs)))
+    cond (eqb (get_or xs 0 0) 0x53) (Settings (record { kind = get_or xs 1 0; k = get_or xs 2 0; f = get_or xs 3 0; limit = get_or xs 4 0; term = get_or xs 5 0; n = num32 (drop 6 xs) }))
     (cond (eqb (get_or xs 0 0) 0x52) (Radius (num32 (drop 1 xs)))
     (cond (eqb (get_or xs 0 0) 0x4F) Open
     (cond (eqb (get_or xs 0 0) 0x48) (Hull (num32 (drop 1 xs)) (nums 8 (drop 5 xs)))
@@ -20,7 +20,7 @@ back xs =
 
 back_of : (c : Command) (t : List ℕ) → Carried c → back (bytes_of c ++ t) ≡ c
 unfolding back
-back_of (Settings kind k f limit term n) t h = ap (Settings kind k f limit term) (num32_be32 n t h.5)
+back_of (Settings s) t h = ap (λ n. Settings (record s { n = n })) (num32_be32 s.n t h.5)
 back_of (Radius radius) t h = ap Radius (num32_be32 radius t h)
 back_of Open t h = refl
 back_of (Hull day offsets) t h =
@@ -42,7 +42,7 @@ pub one_reading : (c d : Command) (t u : List ℕ) → Carried c → Carried d �
 one_reading c d t u f g e = sym (back_of c t f) ∙ ap back e ∙ back_of d u g
 
 pub size_is_length : (c : Command) → Carried c → length (bytes_of c) ≡ size_of c
-size_is_length (Settings kind k f limit term n) h = let e = length-be32 n in omega arith
+size_is_length (Settings s) h = let e = length-be32 s.n in omega arith
 size_is_length (Radius radius) h = let e = length-be32 radius in omega arith
 size_is_length Open h = refl
 size_is_length (Hull day offsets) h =

@@ -9,7 +9,7 @@ use Rattle.command.specs.Verbs.{letter, width}
 use Rattle.command.specs.Bytes.{be32, be64, be32zs}
 
 abbrev pub verb_of : Command → Verb
-verb_of (Settings kind k f limit term n) = Verbal.Settings
+verb_of (Settings s) = Verbal.Settings
 verb_of (Radius radius) = Verbal.Radius
 verb_of Open = Verbal.Open
 verb_of (Hull day offsets) = Verbal.Hull
@@ -18,7 +18,7 @@ verb_of (Day day) = Verbal.Day
 verb_of Pick = Verbal.Pick
 
 abbrev pub operands_of : Command → List ℕ
-operands_of (Settings kind k f limit term n) = kind ∷ k ∷ f ∷ limit ∷ term ∷ be32 n
+operands_of (Settings s) = s.kind ∷ s.k ∷ s.f ∷ s.limit ∷ s.term ∷ be32 s.n
 operands_of (Radius radius) = be32 radius
 operands_of Open = []
 operands_of (Hull day offsets) = be32 day ++ be32zs offsets
@@ -35,7 +35,7 @@ size_of c = width (verb_of c)
 
 -- each operand fits its width: these are the commands
 abbrev pub Carried : Command → Type 0
-Carried (Settings kind k f limit term n) = (kind < 2 ^ 8) × (k < 2 ^ 8) × (f < 2 ^ 8) × (limit < 2 ^ 8) × (term < 2 ^ 8) × (n < 2 ^ 32)
+Carried (Settings s) = (s.kind < 2 ^ 8) × (s.k < 2 ^ 8) × (s.f < 2 ^ 8) × (s.limit < 2 ^ 8) × (s.term < 2 ^ 8) × (s.n < 2 ^ 32)
 Carried (Radius radius) = radius < 2 ^ 32
 Carried Open = Unit {0}
 Carried (Hull day offsets) = (day < 2 ^ 32) × (length offsets ≡ 8) × ((i : ℕ) → i < 8 → FitsSigned w32 (slice_index_or offsets i (pos 0)))

@@ -1,6 +1,8 @@
 -- What the first byte of a command tells.
-use Rattle.std.specs.Prelude.{ℕ}
+use Rattle.std.specs.Prelude.{◌≡◌, ◌≢◌, ℕ, Result, MatchResult}
 use Rattle.command.specs.declared.verb.Verb.{Verb}
+use Rattle.refusal.specs.declared.Refusal.{Refusal}
+use Rattle.refusal.specs.declared.Refusal.TheVariants.{UnknownByte}
 use Rattle.command.specs.declared.verb.Verb.TheVariants.{Settings, Radius, Open, Hull, Joinery, Day, Pick}
 
 -- the byte
@@ -22,3 +24,7 @@ width Hull = 37
 width Joinery = 13
 width Day = 5
 width Pick = 1
+
+-- the verb with this byte, or the refusal where no verb has it
+abbrev pub Begins : ℕ → Result Verb Refusal → Type 0
+Begins byte r = MatchResult r (λ v. letter v ≡ byte) (λ why. (why ≡ UnknownByte) × ((v : Verb) → letter v ≢ byte))

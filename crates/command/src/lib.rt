@@ -12,32 +12,35 @@ pub mod verb;
 
 pub use verb::Verb;
 
+/// How to set up a book, as a command says it.
+#[derive(Clone, Copy, PartialEq, Eq, Debug)]
+pub struct RawSettings {
+    // Bytes and no enums: whatever the widths can carry is a command.
+    /// the kind of piece
+    pub kind: u8,
+    pub k: u8,
+    /// the fineness
+    pub f: u8,
+    /// the fine limit F
+    pub limit: u8,
+    pub term: u8,
+    /// how many pieces or days the term has
+    pub n: u32,
+}
+
 /// A command with its raw operands. Whether they make sense is judged above.
 #[derive(Clone, Copy, PartialEq, Eq, Debug)]
 pub enum Command {
-    /// how to set up a book: the kind of piece, k, the fineness f, the fine limit F, the term and its n
-    Settings {
-        kind: u8,
-        k: u8,
-        f: u8,
-        limit: u8,
-        term: u8,
-        n: u32,
-    },
+    /// how to set up a book
+    Settings(RawSettings),
     /// a further radius
     Radius(u32),
     /// the end of setting up
     Open,
     /// a hull panel and its day
-    Hull {
-        day: u32,
-        offsets: [i32; 8],
-    },
+    Hull { day: u32, offsets: [i32; 8] },
     /// a joinery part and its day
-    Joinery {
-        day: u32,
-        word: u64,
-    },
+    Joinery { day: u32, word: u64 },
     /// another day
     Day(u32),
     /// a pick
@@ -53,7 +56,7 @@ impl Command {
         ensures { result ≡ verb_of self.now }
     {
         match self {
-            Command::Settings { .. } => Verb::Settings,
+            Command::Settings(_) => Verb::Settings,
             Command::Radius(_) => Verb::Radius,
             Command::Open => Verb::Open,
             Command::Hull { .. } => Verb::Hull,
@@ -70,63 +73,47 @@ impl Command {
         self.verb().width()
     }
 
-    /// Every command's operands fit their widths. It does nothing: its contract is the fact.
+    /// Every command's operands fit their widths. It does nothing: its contract is the fact, and reading an operand
+    /// makes known that it is a number of its type.
     pub fn carried(&self)
         ensures { Carried self.now }
     {
         match self {
-            Command::Settings {
-                kind,
-                k,
-                f,
-                limit,
-                term,
-                n,
-            } => {
-                byte(*kind);
-                byte(*k);
-                byte(*f);
-                byte(*limit);
-                byte(*term);
-                number(*n);
+            Command::Settings(
+                RawSettings {
+                    kind,
+                    k,
+                    f,
+                    limit,
+                    term,
+                    n,
+                },
+            ) => {
+                let _bytes = [*kind, *k, *f, *limit, *term];
+                let _n = *n;
             }
-            Command::Radius(radius) => number(*radius),
-            Command::Open => {}
+            Command::Radius(number) | Command::Day(number) => {
+                let _number = *number;
+            }
             Command::Hull { day, offsets } => {
-                number(*day);
+                let _day = *day;
                 eight(offsets);
             }
             Command::Joinery { day, word } => {
-                number(*day);
-                long(*word);
+                let _day = *day;
+                let _word = *word;
             }
-            Command::Day(day) => number(*day),
-            Command::Pick => {}
+            Command::Open | Command::Pick => {}
         }
     }
 }
 
-fn byte(x: u8)
-    ensures { x < 2 ^ 8 }
-{}
-
-fn number(x: u32)
-    ensures { x < 2 ^ 32 }
-{}
-
-fn long(x: u64)
-    ensures { x < 2 ^ 64 }
-{}
-
-fn whole(x: i32)
-    ensures { FitsSigned w32 x }
-{}
-
-fn eight(xs: &[i32; 8])
-    ensures len { length xs.now ≡ 8 }
-    ensures each { (i : ℕ) → i < 8 → FitsSigned w32 (slice_index_or xs.now i (pos 0)) }
+/// Each of the eight is a number of its type.
+fn eight(offsets: &[i32; 8])
+    ensures len { length offsets.now ≡ 8 }
+    ensures each { (i : ℕ) → i < 8 → FitsSigned w32 (slice_index_or offsets.now i (pos 0)) }
 {
-    for i in 0..8usize {
-        whole(xs[i]);
+    for offset in offsets {
+        let _offset = *offset;
     }
 }

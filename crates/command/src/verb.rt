@@ -1,52 +1,53 @@
 //! What a command's first byte tells.
 
-ghost use Rattle.std.specs.Prelude.{◌≡◌, ◌<◌, ◌≤◌, MatchOption, ◌≢◌};
-ghost use Rattle.command.specs.Verbs.{letter, width};
+ghost use Rattle.std.specs.Prelude.{◌≡◌, ◌<◌, ◌≤◌};
+ghost use Rattle.command.specs.Verbs.{letter, width, Begins};
 
-/// What a command is, without its operands.
+use refusal::Refusal;
+
+/// What a command is, without its operands. Each verb's number is the byte that begins its commands.
+// Numbers by `as`: a `repr` beside them is refused.
 #[derive(Clone, Copy, PartialEq, Eq, Debug)]
 pub enum Verb {
-    Settings,
-    Radius,
-    Open,
-    Hull,
-    Joinery,
-    Day,
-    Pick,
+    Settings = b'S' as isize,
+    Radius = b'R' as isize,
+    Open = b'O' as isize,
+    Hull = b'H' as isize,
+    Joinery = b'J' as isize,
+    Day = b'D' as isize,
+    Pick = b'P' as isize,
+}
+
+/// The verb whose byte this is. A byte that is no verb's is refused as unknown.
+impl TryFrom<u8> for Verb {
+    type Error = Refusal;
+
+    ghost try_from_gives = { Begins };
+
+    fn try_from(byte: u8) -> Result<Verb, Refusal> {
+        match byte {
+            b'S' => Ok(Verb::Settings),
+            b'R' => Ok(Verb::Radius),
+            b'O' => Ok(Verb::Open),
+            b'H' => Ok(Verb::Hull),
+            b'J' => Ok(Verb::Joinery),
+            b'D' => Ok(Verb::Day),
+            b'P' => Ok(Verb::Pick),
+            _ => Err(Refusal::UnknownByte),
+        }
+    }
+}
+
+/// The verb's byte.
+impl From<Verb> for u8 {
+    ghost from_gives = { λ verb byte. byte ≡ letter verb };
+
+    fn from(verb: Verb) -> u8 {
+        verb as u8
+    }
 }
 
 impl Verb {
-    /// The verb whose byte this is, if it is any verb's.
-    pub fn of(byte: u8) -> Option<Verb>
-        ensures { MatchOption result ((v : Verb) → letter v ≢ byte) (λ v. letter v ≡ byte) }
-    {
-        match byte {
-            b'S' => Some(Verb::Settings),
-            b'R' => Some(Verb::Radius),
-            b'O' => Some(Verb::Open),
-            b'H' => Some(Verb::Hull),
-            b'J' => Some(Verb::Joinery),
-            b'D' => Some(Verb::Day),
-            b'P' => Some(Verb::Pick),
-            _ => None,
-        }
-    }
-
-    /// Its byte.
-    pub fn byte(self) -> u8
-        ensures { result ≡ letter self }
-    {
-        match self {
-            Verb::Settings => b'S',
-            Verb::Radius => b'R',
-            Verb::Open => b'O',
-            Verb::Hull => b'H',
-            Verb::Joinery => b'J',
-            Verb::Day => b'D',
-            Verb::Pick => b'P',
-        }
-    }
-
     /// How many bytes a command with this verb has, the first among them.
     pub fn width(self) -> usize
         ensures is { result ≡ width self }

@@ -8,15 +8,11 @@
 ghost use Rattle.cover.specs.Choices.{FarthestFirst, Pigeonhole};
 
 /// Of pieces that lie at least e apart, one to a centre and one more, two share their nearest centre.
-pub fn pigeonhole<P>() -> u8
+pub fn pigeonhole<P>()
     ensures { Pigeonhole P }
-{
-    0
-}
+{}
 
 /// Centres chosen farthest-first reach at most twice as far as any other choice of as many.
-pub fn farthest_first<P>() -> u8
+pub fn farthest_first<P>()
     ensures { FarthestFirst P }
-{
-    0
-}
+{}

@@ -98,12 +98,12 @@ module _ {P : Type 0} (dist : Distance P) (counts : Rule) where
 
 -- the refusal of a call is that of its answer
 performed-why : (r : Result (Unit {0}) Refusal) (e : Refusal) → performed r ≡ Err e → why r ≡ Some e
-performed-why (Ok u) e q = let z : ◌≡◌ {A = ℕ} 0 1 = cc in absurd (omega arith)
+performed-why (Ok u) e q = cc
 performed-why (Err d) e q = cc
 
 labelled-why : {P : Type 0} (p : Result (picking.Pick P) Refusal) (e : Refusal) → labelled p ≡ Err e
     → why (told_by p) ≡ Some e
-labelled-why (Ok p) e q = let z : ◌≡◌ {A = ℕ} 0 1 = cc in absurd (omega arith)
+labelled-why (Ok p) e q = cc
 labelled-why (Err d) e q = cc
 
 spared_same : {P : Type 0} (p : Result (picking.Pick P) Refusal) (work : List ℕ) → Spared p work work
@@ -113,12 +113,12 @@ spared_same (Err e) work = refl
 -- the lists that a pick is lent suffice for every book
 among_listed : {P : Type 0} (dist : Distance P) (s : Settings) (t : Taken P) (grain : Grain) (xs : List (Place P))
     → why (pick_among dist s t grain xs) ≡ Some ListTooShort → ⊥
-among_listed dist s t grain [] e = let z : ◌≡◌ {A = ℕ} 0 1 = cc in omega arith
-among_listed dist s t grain (x ∷ xs) e = let z : ◌≡◌ {A = ℕ} 0 1 = cc in omega arith
+among_listed dist s t grain [] e = cc
+among_listed dist s t grain (x ∷ xs) e = cc
 
 from_listed : {P : Type 0} (dist : Distance P) (counts : Rule) (b : View P) (o : Option (Taken P))
     → why (pick_from dist counts b o) ≡ Some ListTooShort → ⊥
-from_listed dist counts b None e = let z : ◌≡◌ {A = ℕ} 0 1 = cc in omega arith
+from_listed dist counts b None e = cc
 from_listed dist counts b (Some t) e =
     let grain = grain_by counts b.posts b.day t.row.lost in
     among_listed dist b.settings t grain (used grain t.row) e
@@ -128,11 +128,11 @@ pub lists_suffice : {P : Type 0} (dist : Distance P) (counts : Rule) (b : View P
 lists_suffice dist counts b judged e =
     elim (why-after _ (pick_from dist counts b (taken dist b)) ListTooShort e) [
       | inl h ↦ elim (reason_tested (pick_tests b blank spare) ListTooShort h) [
-        | inl k ↦ let f = k.1 in let z : ◌≡◌ {A = ℕ} 0 1 = cc in omega arith
+        | inl k ↦ let f = k.1 in cc
         | inr k ↦ elim k [
           | inl l ↦ let f = l.0 in grind (arith, nat_tests)
           | inr l ↦ elim l [
-            | inl m ↦ let f = m.1 in let z : ◌≡◌ {A = ℕ} 0 1 = cc in omega arith
+            | inl m ↦ let f = m.1 in cc
             | inr m ↦ m
           ]
         ]
@@ -174,21 +174,21 @@ module _ {P : Type 0} (dist : Distance P) (metric : Metric dist) (counts : Rule)
   out_of_place : (t : Story P) (a : Ask P) → Kept dist counts t a (Err OutOfPlace)
   out_of_place t a = record {
     pick = λ q. inl refl;
-    room = λ enough q. let z : ◌≡◌ {A = ℕ} 0 1 = cc in omega arith;
+    room = λ enough q. cc;
   }
 
   pub led_keeps : (stage : Stage P) (t : Story P) (a : Ask P) → Led dist counts stage t
       → Kept dist counts t a (answer_to dist counts stage a)
   led_keeps (SettingUp u) t (Radius g) l = record {
-    pick = λ q. let z : ◌≡◌ {A = ℕ} 0 1 = cc in absurd (omega arith);
+    pick = λ q. cc;
     room =
         room_from (event.Radius g (after (why_not_radius u g) (Ok tt))) l.events _ t _
         (event.tried g l.run (record { answer = refl; left = refl })) l.tells
         (performed-why (after (why_not_radius u g) (Ok tt)) ShelfTooShort);
   }
   led_keeps (SettingUp u) t Open l = record {
-    pick = λ q. let z : ◌≡◌ {A = ℕ} 0 1 = cc in absurd (omega arith);
-    room = λ enough q. let z : ◌≡◌ {A = ℕ} 0 1 = cc in omega arith;
+    pick = λ q. cc;
+    room = λ enough q. cc;
   }
   led_keeps (SettingUp u) t (Post p d) l = out_of_place t (Post p d)
   led_keeps (SettingUp u) t (Turn d) l = out_of_place t (Turn d)
@@ -197,14 +197,14 @@ module _ {P : Type 0} (dist : Distance P) (metric : Metric dist) (counts : Rule)
   led_keeps (Opened b) t (Radius g) l = out_of_place t (Radius g)
   led_keeps (Opened b) t Open l = out_of_place t Open
   led_keeps (Opened b) t (Post p d) l = record {
-    pick = λ q. let z : ◌≡◌ {A = ℕ} 0 1 = cc in absurd (omega arith);
+    pick = λ q. cc;
     room =
         room_from (event.Post p d (after (why_not_post b d) (Ok tt))) l.events _ t _
         (event.posted p d l.run (record { answer = refl; left = refl })) l.tells
         (performed-why (after (why_not_post b d) (Ok tt)) ShelfTooShort);
   }
   led_keeps (Opened b) t (Turn d) l = record {
-    pick = λ q. let z : ◌≡◌ {A = ℕ} 0 1 = cc in absurd (omega arith);
+    pick = λ q. cc;
     room =
         room_from (event.Turn d (after (why_not_turn b d) (Ok tt))) l.events _ t _
         (event.turned d l.run (record { answer = refl; left = refl })) l.tells

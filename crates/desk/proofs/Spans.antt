@@ -22,5 +22,5 @@ days_lawful n some = record {
 }
 
 pub span_lawful : (s : Span) → Lawful (spanned s)
-span_lawful (Pieces t) = number_lawful t.n t.positive
-span_lawful (Days t) = days_lawful t.n t.positive
+span_lawful (Pieces t) = number_lawful t.n.number t.n.positive
+span_lawful (Days t) = days_lawful t.n.number t.n.positive

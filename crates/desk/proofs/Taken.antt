@@ -10,21 +10,13 @@ use Rattle.rules.specs.Runs.{Opened}
 use Rattle.rules.specs.Views.{View}
 use Rattle.rules.specs.Words.{after, leaves}
 use Rattle.rules.specs.declared.place.Place.{Place}
-use Rattle.row.specs.declared.settings.Settings.{Settings}
 use Rattle.term.specs.Formulas.{Rule}
-use Rattle.term.specs.declared.span.Span.{Span}
-use Rattle.book.specs.Seen.{Surplus, seen}
-use Rattle.book.specs.declared.open.Book.{Book}
-use Rattle.book.specs.declared.setup.Setup.{Setup}
 use Rattle.desk.proofs.Leading.{led_fits, led_keeps, led_on}
 use Rattle.desk.specs.Accounts.{Kept, Led, heard}
-use Rattle.desk.specs.Asks.{performed, stage_after}
+use Rattle.desk.specs.Asks.{stage_after}
 use Rattle.desk.specs.Seen.{Took, stage_of}
 use Rattle.desk.specs.declared.ask.Ask.{Ask}
-use Rattle.desk.specs.declared.ask.Ask.TheVariants.{Post}
 use Rattle.desk.specs.declared.desk.Desk.{Desk}
-use Rattle.desk.specs.declared.desk.Phase.{Phase}
-use Rattle.desk.specs.declared.desk.Phase.TheVariants as phase
 
 -- what a post leaves, whether it was performed or refused
 pub post_left : {P : Type 0} (dist : Distance P) (counts : Rule) (b b2 : View P) (p : P) (d : ℕ)
@@ -41,34 +33,6 @@ post_left {P} dist counts b b2 p d r answer rule same = go (why_not_post b d) re
     go (Some e) q fits =
         let is : r ≡ Err e = answer ∙ ap (λ o. after o (Ok tt)) q in
         ap Opened (same (ap is_ok is) ∙ ap (λ o. leaves o b (posted dist counts p d b)) (sym q))
-
--- a call that answers no label is refused where its answer is
-pub performed_ok : (r : Result (Unit {0}) Refusal) → is_ok (performed r) ≡ false → is_ok r ≡ false
-performed_ok (Ok u) q = q
-performed_ok (Err e) q = q
-
--- a post at an open book
-pub post_took : {P : Type 0} (dist : Distance P) (counts : Rule) (p : P) (d : ℕ) (s : Settings) (span : Span) (ph : Phase)
-    (u : Setup P) (b b2 : Book P) (xs ys : List (Place P)) (r : Result (Unit {0}) Refusal)
-    (label : Result (Option Label) Refusal) → ph ≡ phase.Open → label ≡ performed r
-    → r ≡ after (why_not_post (seen b xs) d) (Ok tt)
-    → (Fits (Opened (posted dist counts p d (seen b xs))) → PostRule dist counts (seen b xs) p d r (seen b2 ys))
-    → (is_ok r ≡ false → (b2 ≡ b) × (ys ≡ xs)) → Surplus b xs ys
-    → Took dist counts (Post p d) label (record { settings = s; span = span; phase = ph; setup = u; book = b }) xs
-    (record { settings = s; span = span; phase = ph; setup = u; book = b2 }) ys
-post_took {P} dist counts p d s span ph u b b2 xs ys r label opened is answer rule same surplus =
-    let desk : Phase → Book P → Desk P = λ h x. record { settings = s; span = span; phase = h; setup = u; book = x } in
-    subst (λ h. Took dist counts (Post p d) label (desk h b) xs (desk h b2) ys) (sym opened) (record {
-      answer = is ∙ ap performed answer;
-      left =
-          post_left dist counts (seen b xs) (seen b2 ys) p d r answer rule
-          (λ q. ap (λ x. seen x ys) (same q).0 ∙ ap (seen b) (same q).1);
-      term = refl;
-      refused = λ q.
-          let kept = same (performed_ok r (subst (λ x. is_ok x ≡ false) is q)) in
-          (ap (desk phase.Open) kept.0, kept.1);
-      surplus = surplus;
-    })
 
 module _ {P : Type 0} (dist : Distance P) (metric : Metric dist) (counts : Rule) (law : Lawful counts) (a : Ask P)
     (r : Result (Option Label) Refusal) (was : Desk P) (places : List (Place P)) (is : Desk P) (places2 : List (Place P))

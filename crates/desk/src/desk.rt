@@ -5,19 +5,16 @@ use row::Settings;
 use term::Span;
 
 /// How far a book has come: radii are entered, or it is open.
-#[derive(Clone, Copy)]
-pub enum Phase {
-    SettingUp,
-    Open,
+#[derive(Drop)]
+pub enum Stage<P> {
+    SettingUp(Setup<P>),
+    Open(Book<P>),
 }
 
-/// A book with the settings and the term that it was begun with. Its phase says which of `setup` and `book` is in use;
-/// the other one is empty.
+/// A book with the settings and the term that it was begun with.
 #[derive(Drop)]
 pub struct Desk<P> {
     pub(crate) settings: Settings,
     pub(crate) span: Span,
-    pub(crate) phase: Phase,
-    pub(crate) setup: Setup<P>,
-    pub(crate) book: Book<P>,
+    pub(crate) stage: Stage<P>,
 }

@@ -10,16 +10,16 @@ ghost use Rattle.rules.specs.declared.place.Place.{Place};
 ghost use Rattle.term.specs.Formulas.{Rule};
 ghost use Rattle.term.specs.Spans.{spanned};
 ghost use Rattle.desk.specs.Accounts.{Kept, Led, begun_with, heard};
-ghost use Rattle.desk.specs.Asks.{label_from, performed, stage_after};
+ghost use Rattle.desk.specs.Asks.{stage_after};
 ghost use Rattle.desk.specs.Seen.{Took, stage_of};
 
 use crate::ask::Ask;
-use crate::desk::{Desk, Phase};
+use crate::desk::{Desk, Stage};
 use book::{Setup, Shelf};
 use label::Label;
 use refusal::Refusal;
 use row::Settings;
-use rules::Picked;
+use rules::Place;
 use std::mem;
 use tape::Tape;
 use term::Span;
@@ -34,101 +34,42 @@ impl<P> Desk<P> {
         Desk {
             settings,
             span,
-            phase: Phase::SettingUp,
-            setup: Setup::begin(settings),
-            book: Setup::begin(settings).open(),
-        }
-    }
-
-    fn enter(&mut self, radius: u32) -> Result<Option<Label>, Refusal>
-        ensures { (dist : Distance P) (counts : Rule) (places : List (Place P)) → Took dist counts (Ask.Radius radius) result self.old places self.new places }
-    {
-        match self.phase {
-            Phase::SettingUp => unlabelled(self.setup.enter(radius)),
-            Phase::Open => Err(Refusal::OutOfPlace),
-        }
-    }
-
-    fn open(&mut self) -> Result<Option<Label>, Refusal>
-        ensures { (dist : Distance P) (counts : Rule) (places : List (Place P)) → Took dist counts Ask.Open result self.old places self.new places }
-    {
-        match self.phase {
-            Phase::SettingUp => {
-                let setup = mem::replace(&mut self.setup, Setup::begin(self.settings));
-                self.book = setup.open();
-                self.phase = Phase::Open;
-                Ok(None)
-            }
-            Phase::Open => Err(Refusal::OutOfPlace),
+            stage: Stage::SettingUp(Setup::begin(settings)),
         }
     }
 }
 
 impl<P: Copy> Desk<P> {
-    fn post<T: Tape<P>>(
-        &mut self,
-        shelf: &mut Shelf<'_, P>,
-        tape: &T,
-        piece: P,
-        day: u32,
-    ) -> Result<Option<Label>, Refusal>
-        ensures took { Took (T.Tape.dist tape.now) (spanned self.old.span) (Ask.Post piece day) result self.old shelf.old.places.now self.new shelf.new.places.now }
-        ensures lent { shelf.new.places.ghost_name ≡ shelf.old.places.ghost_name }
-    {
-        match self.phase {
-            Phase::SettingUp => Err(Refusal::OutOfPlace),
-            Phase::Open => {
-                let span = self.span;
-                unlabelled(self.book.post(shelf, tape, &span, piece, day))
-            }
-        }
-    }
-
-    fn turn(&mut self, shelf: &mut Shelf<'_, P>, day: u32) -> Result<Option<Label>, Refusal>
-        ensures took { (dist : Distance P) → Took dist (spanned self.old.span) (Ask.Turn day) result self.old shelf.old.places.now self.new shelf.new.places.now }
-        ensures lent { shelf.new.places.ghost_name ≡ shelf.old.places.ghost_name }
-    {
-        match self.phase {
-            Phase::SettingUp => Err(Refusal::OutOfPlace),
-            Phase::Open => {
-                let span = self.span;
-                unlabelled(self.book.turn(shelf, &span, day))
-            }
-        }
-    }
-
-    fn pick<T: Tape<P>>(&self, shelf: &Shelf<'_, P>, tape: &T) -> Result<Option<Label>, Refusal>
-        ensures { Took (T.Tape.dist tape.now) (spanned self.now.span) Ask.Pick result self.now shelf.now.places.now self.now shelf.now.places.now }
-    {
-        match self.phase {
-            Phase::SettingUp => Err(Refusal::OutOfPlace),
-            Phase::Open => {
-                let mut arrivals = [0; 12];
-                let mut work = [0; 64];
-                let picked = self
-                    .book
-                    .pick(shelf, tape, &self.span, &mut arrivals, &mut work);
-                labelled(picked, arrivals)
-            }
-        }
-    }
-
+    // Apart from `take`: here each command keeps its own promise, and there, in one place, come those of a run.
     fn perform<T: Tape<P>>(
         &mut self,
         ask: Ask<P>,
-        shelf: &mut Shelf<'_, P>,
+        places: &mut [Place<P>],
         tape: &T,
     ) -> Result<Option<Label>, Refusal>
-        ensures took { Took (T.Tape.dist tape.now) (spanned self.old.span) ask result self.old shelf.old.places.now self.new shelf.new.places.now }
-        ensures lent { shelf.new.places.ghost_name ≡ shelf.old.places.ghost_name }
+        ensures { Took (T.Tape.dist tape.now) (spanned self.old.span) ask result self.old places.old self.new places.new }
     {
-        match ask {
-            Ask::Radius(radius) => self.enter(radius),
-            Ask::Open => self.open(),
-            Ask::Post { piece, day } => self.post(shelf, tape, piece, day),
-            Ask::Turn(day) => self.turn(shelf, day),
-            Ask::Pick => self.pick(shelf, tape),
-            Ask::Stray => Err(Refusal::OutOfPlace),
+        let shelf = &mut Shelf { places };
+        match (ask, &mut self.stage) {
+            (Ask::Radius(radius), Stage::SettingUp(setup)) => setup.enter(radius).map(|()| None),
+            (Ask::Open, Stage::SettingUp(setup)) => {
+                let setup = mem::replace(setup, Setup::begin(self.settings));
+                self.stage = Stage::Open(setup.open());
+                Ok(None)
+            }
+            (Ask::Post { piece, day }, Stage::Open(book)) => book
+                .post(shelf, tape, &self.span, piece, day)
+                .map(|()| None),
+            (Ask::Turn(day), Stage::Open(book)) => {
+                book.turn(shelf, &self.span, day).map(|()| None)
+            }
+            (Ask::Pick, Stage::Open(book)) => {
+                let mut arrivals = [0; 12];
+                let mut work = [0; 64];
+                book.pick(shelf, tape, &self.span, &mut arrivals, &mut work)
+                    .map(|picked| Some(Label { picked, arrivals }))
+            }
+            _ => Err(Refusal::OutOfPlace),
         }
     }
 
@@ -139,34 +80,13 @@ impl<P: Copy> Desk<P> {
     pub fn take<T: Tape<P>>(
         &mut self,
         ask: Ask<P>,
-        shelf: &mut Shelf<'_, P>,
+        places: &mut [Place<P>],
         tape: &T,
     ) -> Result<Option<Label>, Refusal>
-        ensures took { Took (T.Tape.dist tape.now) (spanned self.old.span) ask result self.old shelf.old.places.now self.new shelf.new.places.now }
-        ensures run { (t : Story P) → Led (T.Tape.dist tape.now) (spanned self.old.span) (stage_of self.old shelf.old.places.now) t → (stage_of self.new shelf.new.places.now ≡ stage_after (T.Tape.dist tape.now) (spanned self.old.span) (length shelf.old.places.now) (stage_of self.old shelf.old.places.now) ask) × Led (T.Tape.dist tape.now) (spanned self.old.span) (stage_of self.new shelf.new.places.now) (heard (length shelf.old.places.now) result ask t) }
-        ensures holds { (t : Story P) → Led (T.Tape.dist tape.now) (spanned self.old.span) (stage_of self.old shelf.old.places.now) t → Kept (T.Tape.dist tape.now) (spanned self.old.span) t ask result }
-        ensures lent { shelf.new.places.ghost_name ≡ shelf.old.places.ghost_name }
+        ensures took { Took (T.Tape.dist tape.now) (spanned self.old.span) ask result self.old places.old self.new places.new }
+        ensures run { (t : Story P) → Led (T.Tape.dist tape.now) (spanned self.old.span) (stage_of self.old places.old) t → (stage_of self.new places.new ≡ stage_after (T.Tape.dist tape.now) (spanned self.old.span) (length places.old) (stage_of self.old places.old) ask) × Led (T.Tape.dist tape.now) (spanned self.old.span) (stage_of self.new places.new) (heard (length places.old) result ask t) }
+        ensures holds { (t : Story P) → Led (T.Tape.dist tape.now) (spanned self.old.span) (stage_of self.old places.old) t → Kept (T.Tape.dist tape.now) (spanned self.old.span) t ask result }
     {
-        self.perform(ask, shelf, tape)
-    }
-}
-
-/// A call that answers nothing but that it was performed has no label.
-fn unlabelled(answer: Result<(), Refusal>) -> Result<Option<Label>, Refusal>
-    ensures { result ≡ performed answer }
-{
-    match answer {
-        Ok(()) => Ok(None),
-        Err(why) => Err(why),
-    }
-}
-
-/// The label of a pick, from its answer and its answer list.
-fn labelled(answer: Result<Picked, Refusal>, arrivals: [u32; 12]) -> Result<Option<Label>, Refusal>
-    ensures { result ≡ label_from answer arrivals }
-{
-    match answer {
-        Ok(picked) => Ok(Some(Label { picked, arrivals })),
-        Err(why) => Err(why),
+        self.perform(ask, places, tape)
     }
 }

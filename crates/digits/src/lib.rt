@@ -1,33 +1,134 @@
-//! Bytes and numbers put into a text, one after another: each call answers where its text ends.
+//! A text that is put together piece by piece, of bytes and numbers.
 
 #![tactic(auto)]
 
-ghost use Rattle.std.specs.Prelude.{◌≡◌, ℕ, ◌+◌, ◌<◌, ◌≤◌, true, [], ◌∷◌, ◌++◌, length, take, drop, decimal};
+ghost use Rattle.std.specs.Prelude.{◌≡◌, ◌+◌, ◌<◌, ◌≤◌, true, [], ◌∷◌, ◌++◌, length, decimal};
 ghost use Rattle.std.specs.Fmt.{digit_glyph, signed_decimal};
 ghost use Rattle.digits.specs.Digits.{hex_digits};
 
-/// Puts the bytes at `at` and answers where they end.
-pub fn put(out: &mut [u8], at: usize, bytes: &[u8]) -> usize
-    requires { at + length bytes.now ≤ length out.old }
-    ensures end { result ≡ at + length bytes.now }
-    ensures front { take result out.new ≡ take at out.old ++ bytes.now }
-    ensures back { (k : ℕ) → result ≤ k → drop k out.new ≡ drop k out.old }
-{
-    let end = at + bytes.len();
-    out[at..end].copy_from_slice(bytes);
-    end
+use std::marker::Model;
+
+/// A text in fixed room, to whose end bytes and numbers are put.
+#[derive(Drop)]
+pub struct Text<const ROOM: usize> {
+    bytes: [u8; ROOM],
+    len: usize,
 }
 
-/// One digit, of any base up to 16.
-fn put_digit(out: &mut [u8], at: usize, digit: u8) -> usize
-    requires at_in_bounds { at < length out.old }
-    requires digit_bound { digit < 16 }
-    ensures end { result ≡ at + 1 }
-    ensures front { take result out.new ≡ take at out.old ++ (digit_glyph true digit ∷ []) }
-    ensures back { (k : ℕ) → result ≤ k → drop k out.new ≡ drop k out.old }
+impl<const ROOM: usize> Model for Text<ROOM> {
+    ghost use Rattle.std.specs.Prelude.{ℕ, ◌≤◌, List, take};
+
+    ghost Value = { List ℕ };
+
+    ghost view = { λ text. take text.len text.bytes };
+
+    ghost invariant = { λ text. text.len ≤ ROOM };
+}
+
+impl<const ROOM: usize> Text<ROOM> {
+    pub fn new() -> Self
+        ensures { result ≡ [] }
+    {
+        Text {
+            bytes: [0; ROOM],
+            len: 0,
+        }
+    }
+
+    pub fn as_slice(&self) -> &[u8]
+        ensures { result.now ≡ self.now }
+    {
+        &self.bytes[..self.len]
+    }
+
+    /// Puts the bytes.
+    pub fn put(&mut self, bytes: &[u8])
+        requires { length self.old + length bytes.now ≤ ROOM }
+        ensures { self.new ≡ self.old ++ bytes.now }
+    {
+        let end = self.len + bytes.len();
+        let room = &mut self.bytes[..];
+        room[self.len..end].copy_from_slice(bytes);
+        self.len = end;
+    }
+
+    /// One digit, of any base up to 16.
+    fn put_digit(&mut self, digit: u8)
+        requires room { length self.old < ROOM }
+        requires digit_bound { digit < 16 }
+        ensures { self.new ≡ self.old ++ (digit_glyph true digit ∷ []) }
+    {
+        self.put(&[digit_byte(digit)]);
+    }
+
+    fn put_decimal(&mut self, n: u64)
+        requires { length self.old + length (decimal n) ≤ ROOM }
+        ensures { self.new ≡ self.old ++ decimal n }
+    {
+        if n < 10 {
+            self.put_digit(n as u8);
+        } else {
+            let (rest, last) = split_last(n);
+            self.put_decimal(rest);
+            self.put_digit(last);
+        }
+    }
+
+    // Two methods for numbers: they promise two different rooms.
+    /// The number in decimal digits, of which it has at most ten.
+    #[tactic(auto, using(crate::proofs::Figures::number_short))]
+    pub fn put_number(&mut self, n: u32)
+        requires { length self.old + 10 ≤ ROOM }
+        ensures is { self.new ≡ self.old ++ decimal n }
+        ensures bound { length self.new ≤ length self.old + 10 }
+    {
+        self.put_decimal(u64::from(n));
+    }
+
+    /// The count in decimal digits, of which it has at most twenty.
+    #[tactic(auto, using(crate::proofs::Figures::count_short))]
+    pub fn put_count(&mut self, n: usize)
+        requires { length self.old + 20 ≤ ROOM }
+        ensures is { self.new ≡ self.old ++ decimal n }
+        ensures bound { length self.new ≤ length self.old + 20 }
+    {
+        self.put_decimal(n as u64);
+    }
+
+    /// The number in decimal digits, after a minus if it is negative.
+    pub fn put_offset(&mut self, x: i32)
+        requires { length self.old + 11 ≤ ROOM }
+        ensures is { self.new ≡ self.old ++ signed_decimal x }
+        ensures bound { length self.new ≤ length self.old + 11 }
+    {
+        if x < 0 {
+            self.put(b"-");
+        }
+        self.put_number(x.unsigned_abs());
+    }
+
+    /// The last `count` hexadecimal digits of the number.
+    pub fn put_hex(&mut self, n: u64, count: usize)
+        requires { length self.old + count ≤ ROOM }
+        ensures is { self.new ≡ self.old ++ hex_digits count n }
+        ensures end { length self.new ≡ length self.old + count }
+    {
+        if count > 0 {
+            self.put_hex(n / 16, count - 1);
+            self.put_digit((n % 16) as u8);
+        }
+    }
+}
+
+/// The number that the digits before the last make, and the last.
+fn split_last(n: u64) -> (u64, u8)
+    requires { 10 ≤ n }
+    ensures smaller { result.0 < n }
+    ensures digit { result.1 < 10 }
+    ensures digits { decimal n ≡ decimal result.0 ++ (digit_glyph true result.1 ∷ []) }
+    ensures count { length (decimal n) ≡ length (decimal result.0) + 1 }
 {
-    out[at] = digit_byte(digit);
-    at + 1
+    (n / 10, (n % 10) as u8)
 }
 
 fn digit_byte(digit: u8) -> u8
@@ -39,68 +140,4 @@ fn digit_byte(digit: u8) -> u8
     } else {
         b'7' + digit
     }
-}
-
-fn put_decimal(out: &mut [u8], at: usize, n: u64) -> usize
-    requires { at + length (decimal n) ≤ length out.old }
-    ensures end { result ≡ at + length (decimal n) }
-    ensures front { take result out.new ≡ take at out.old ++ decimal n }
-    ensures back { (k : ℕ) → result ≤ k → drop k out.new ≡ drop k out.old }
-{
-    if n < 10 {
-        return put_digit(out, at, n as u8);
-    }
-    let last = put_decimal(out, at, n / 10);
-    put_digit(out, last, (n % 10) as u8)
-}
-
-/// The number in decimal digits, of which it has at most ten.
-pub fn put_number(out: &mut [u8], at: usize, n: u32) -> usize
-    requires { at + 10 ≤ length out.old }
-    ensures end { result ≡ at + length (decimal n) }
-    ensures bound { result ≤ at + 10 }
-    ensures front { take result out.new ≡ take at out.old ++ decimal n }
-    ensures back { (k : ℕ) → result ≤ k → drop k out.new ≡ drop k out.old }
-{
-    put_decimal(out, at, u64::from(n))
-}
-
-/// The count in decimal digits, of which it has at most twenty.
-pub fn put_count(out: &mut [u8], at: usize, n: usize) -> usize
-    requires { at + 20 ≤ length out.old }
-    ensures end { result ≡ at + length (decimal n) }
-    ensures bound { result ≤ at + 20 }
-    ensures front { take result out.new ≡ take at out.old ++ decimal n }
-    ensures back { (k : ℕ) → result ≤ k → drop k out.new ≡ drop k out.old }
-{
-    put_decimal(out, at, n as u64)
-}
-
-/// The number in decimal digits, after a minus if it is negative.
-pub fn put_offset(out: &mut [u8], at: usize, x: i32) -> usize
-    requires { at + 11 ≤ length out.old }
-    ensures end { result ≡ at + length (signed_decimal x) }
-    ensures bound { result ≤ at + 11 }
-    ensures front { take result out.new ≡ take at out.old ++ signed_decimal x }
-    ensures back { (k : ℕ) → result ≤ k → drop k out.new ≡ drop k out.old }
-{
-    if x < 0 {
-        let digits = put(out, at, b"-");
-        return put_number(out, digits, x.unsigned_abs());
-    }
-    put_number(out, at, x.unsigned_abs())
-}
-
-/// The last `count` hexadecimal digits of the number.
-pub fn put_hex(out: &mut [u8], at: usize, n: u64, count: usize) -> usize
-    requires { at + count ≤ length out.old }
-    ensures end { result ≡ at + count }
-    ensures front { take result out.new ≡ take at out.old ++ hex_digits count n }
-    ensures back { (k : ℕ) → result ≤ k → drop k out.new ≡ drop k out.old }
-{
-    if count == 0 {
-        return at;
-    }
-    let last = put_hex(out, at, n / 16, count - 1);
-    put_digit(out, last, (n % 16) as u8)
 }

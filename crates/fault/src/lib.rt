@@ -45,10 +45,7 @@ impl Fault {
 pub fn located<X>(answer: Result<X, Refusal>, offset: usize) -> Result<X, Fault>
     ensures { result ≡ located_at offset answer }
 {
-    match answer {
-        Ok(x) => Ok(x),
-        Err(refusal) => Err(Fault::at(refusal, offset)),
-    }
+    answer.map_err(|refusal| Fault::at(refusal, offset))
 }
 
 /// As users see it: `refused 15 layer 1 at 26`.

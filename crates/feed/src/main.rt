@@ -2,13 +2,13 @@
 
 #![tactic(auto)]
 
-ghost use Rattle.std.specs.Prelude.{◌≡◌};
+ghost use Rattle.std.specs.Prelude.{◌≡◌, MatchOption};
 ghost use Rattle.feed.specs.Jobs.{plain_job, option_job};
 
 use anyhow::anyhow;
 use command::LONGEST;
-use listing::{LINE_ROOM, put_text};
-use script::{line_end, parse};
+use listing::text_of;
+use script::parse;
 use std::io::{BufWriter, Read, Write};
 use std::{env, io};
 
@@ -56,28 +56,17 @@ fn asked(rt: &HostRuntime) -> io::Result<Option<Job>> {
     if args.next().is_some() {
         return Ok(None);
     }
-    match second {
-        None => Ok(plain(first.as_str())),
-        Some(option) => Ok(with_option(first.as_str(), option.as_str())),
-    }
+    Ok(job_of(first.as_str(), second.as_deref()))
 }
 
-fn plain(word: &str) -> Option<Job>
-    ensures { result ≡ plain_job word.now }
-{
-    match word {
-        "write" => Some(Job::Write),
-        "read" => Some(Job::Read { offsets: false }),
-        "--help" => Some(Job::Help),
-        _ => None,
-    }
-}
-
-fn with_option(word: &str, option: &str) -> Option<Job>
-    ensures { result ≡ option_job word.now option.now }
+fn job_of(word: &str, option: Option<&str>) -> Option<Job>
+    ensures { MatchOption option.entry (result ≡ plain_job word.now) (λ it. result ≡ option_job word.now it.now) }
 {
     match (word, option) {
-        ("read", "--offsets") => Some(Job::Read { offsets: true }),
+        ("write", None) => Some(Job::Write),
+        ("read", None) => Some(Job::Read { offsets: false }),
+        ("read", Some("--offsets")) => Some(Job::Read { offsets: true }),
+        ("--help", None) => Some(Job::Help),
         _ => None,
     }
 }
@@ -108,26 +97,18 @@ fn write_feed(rt: &HostRuntime, text: &[u8]) -> anyhow::Result<usize> {
     let mut out = BufWriter::new(rt.alloc(), rt.stdout())?;
     let mut bytes = [0; LONGEST];
     let mut bad = 0usize;
-    let mut number = 0usize;
-    let mut at = 0;
-    while at < text.len() {
-        let end = line_end(text, at);
-        number += 1;
-        match parse(&text[at..end]) {
+    for (index, line) in text.split(|byte| *byte == b'\n').enumerate() {
+        match parse(line) {
             Ok(Some(command)) => {
                 let size = wire::write(&command, &mut bytes)?;
-                out.write_all(&bytes[0..size])?;
+                out.write_all(&bytes[..size])?;
             }
             Ok(None) => {}
             Err(mistake) => {
-                eprintln!(rt; "line {number}: {mistake}")?;
+                eprintln!(rt; "line {}: {mistake}", index + 1)?;
                 bad += 1;
             }
         }
-        if end >= text.len() {
-            break;
-        }
-        at = end + 1;
     }
     out.flush()?;
     Ok(bad)
@@ -136,7 +117,7 @@ fn write_feed(rt: &HostRuntime, text: &[u8]) -> anyhow::Result<usize> {
 /// Prints the commands of the feed, one to a line, and last the fault that ends them, if one does.
 fn read_feed(rt: &HostRuntime, bytes: &[u8], offsets: bool) -> io::Result<()> {
     let mut out = BufWriter::new(rt.alloc(), rt.stdout())?;
-    let mut line = [0; LINE_ROOM];
+    // A count by hand: the next command begins where this one ends, and an iterator for this one loop would be longer.
     let mut at = 0;
     while at < bytes.len() {
         match wire::read(bytes, at) {
@@ -144,9 +125,9 @@ fn read_feed(rt: &HostRuntime, bytes: &[u8], offsets: bool) -> io::Result<()> {
                 if offsets {
                     write!(out, "{at} ")?;
                 }
-                let len = put_text(&command, &mut line);
-                line[len] = b'\n';
-                out.write_all(&line[0..len + 1])?;
+                let mut line = text_of(&command);
+                line.put(b"\n");
+                out.write_all(line.as_slice())?;
                 at += size;
             }
             Err(fault) => {

@@ -6,7 +6,7 @@
 mod tests {
     use command::Command;
     use fault::Fault;
-    use listing::put_text;
+    use listing::text_of;
     use order::Order;
     use refusal::Refusal;
     use script::{Mistake, parse};
@@ -19,9 +19,8 @@ mod tests {
         let mut bytes = [0xFF; 40];
         assert_eq!(rt; wire::write(&command, &mut bytes)?, size);
         assert_eq!(rt; wire::read(&bytes, 0)?, (command, size));
-        let mut text = [0; 112];
-        let len = put_text(&command, &mut text);
-        assert!(rt; &text[0..len] == line);
+        let text = text_of(&command);
+        assert!(rt; text.as_slice() == line);
         Ok(())
     }
 

@@ -4,6 +4,7 @@
 
 pub mod hand;
 pub mod seek;
+mod walk;
 
 pub use hand::piece_at;
 pub use seek::find_place;

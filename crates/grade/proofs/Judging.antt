@@ -1,10 +1,10 @@
 -- From what the two passes found to the verdict.
-use Rattle.std.proofs.Common.{◌≡◌, ℕ, false, List, length, Some, None, Decides, Option, sym, refl, ap, ◌∙◌, subst, arith, MatchOption}
+use Rattle.std.proofs.Common.{◌≡◌, ℕ, false, List, length, Some, None, Decides, Option, sym, refl, ap, ◌∙◌, arith, MatchOption}
 use Rattle.refusal.specs.declared.Breach.{Breach}
 use Rattle.grade.specs.Tables.{entry, Lawful}
 use Rattle.grade.specs.Verdicts.{EntriesHold, FirstEntry, FirstWay, Named, WaysHold}
 
-pub lawful : (xs : List ℕ) → EntriesHold xs 256 → WaysHold xs 4096 → Lawful xs
+lawful : (xs : List ℕ) → EntriesHold xs 256 → WaysHold xs 4096 → Lawful xs
 lawful xs f g = (
   λ i j h. (f i j h (omega arith)).0,
   λ i h. (f i i (h, h) (omega arith)).1 refl,
@@ -29,16 +29,9 @@ breaks xs i j (Some m) f l = way_breaks xs i j m f.1 l
 
 pub never : (xs : List ℕ) (b : Breach) → Named xs b → Decides false ((length xs ≡ 256) × Lawful xs)
 never xs b f = (
-  λ e. let z : ◌≡◌ {A = ℕ} 0 1 = cc in let no : ⊥ = omega arith in absurd no,
+  λ e. let no : ⊥ = cc in absurd no,
   λ p. absurd (breaks xs b.row b.column b.through f p.1),
 )
-
-pub named-entry : (xs : List ℕ) (b : Breach) → b.through ≡ None → FirstEntry xs b.row b.column → Named xs b
-named-entry xs b e f =
-    subst
-    (λ o. MatchOption o (FirstEntry xs b.row b.column) (λ m. EntriesHold xs 256 × FirstWay xs b.row b.column m))
-    (sym e)
-    f
 
 -- (the second pass names a third grade)
 way : (xs : List ℕ) (i j : ℕ) (o : Option ℕ)
@@ -48,8 +41,13 @@ way : (xs : List ℕ) (i j : ℕ) (o : Option ℕ)
 way xs i j None h f = absurd f
 way xs i j (Some m) h f = (h, f)
 
-pub named_way : (xs : List ℕ) (b : Breach)
-    → EntriesHold xs 256
-    → MatchOption b.through ⊥ (λ m. FirstWay xs b.row b.column m)
-    → Named xs b
-named_way xs b h f = way xs b.row b.column b.through h f
+-- from what the first pass answered and what both did
+pub judged : (xs : List ℕ) (entries both : Option Breach)
+    → MatchOption entries (EntriesHold xs 256) (λ b. (b.through ≡ None) × FirstEntry xs b.row b.column)
+    → MatchOption entries
+    (MatchOption both (WaysHold xs 4096) (λ b. MatchOption b.through ⊥ (λ m. FirstWay xs b.row b.column m)))
+    (λ b. both ≡ Some b)
+    → MatchOption both (Lawful xs) (Named xs)
+judged xs None None f g = lawful xs f g
+judged xs None (Some b) f g = way xs b.row b.column b.through f g
+judged xs (Some b) both f e = rw (e, f.0) f.1

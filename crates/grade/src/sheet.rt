@@ -6,12 +6,12 @@ ghost use Rattle.refusal.specs.declared.Refusal.TheVariants.{PieceOutOfRange};
 ghost use Rattle.grade.specs.Tables.{entry};
 ghost use Rattle.std.proofs.Common.{rules};
 
-use crate::table::CheckedTable;
+use crate::table::{CheckedTable, entry_at};
 use refusal::Refusal;
 use tape::Tape;
 
 /// A sheet, told by its grade, 0 to 15. A plain number; `Grade::new` checks it.
-#[derive(Clone, Copy)]
+#[derive(Clone, Copy, PartialEq, Eq, Debug)]
 pub struct Grade {
     pub number: u8,
 }
@@ -51,6 +51,6 @@ impl Tape<Grade> for GradeTape {
     {
         let row = a.number % 16;
         let column = b.number % 16;
-        self.table.numbers()[row as usize * 16 + column as usize]
+        entry_at(self.table.numbers(), row, column)
     }
 }

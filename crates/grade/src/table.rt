@@ -1,10 +1,10 @@
 //! The checked table.
 
-ghost use Rattle.std.specs.Prelude.{◌≡◌, length, replicate, is_ok, Decides};
-ghost use Rattle.grade.specs.Tables.{Bounded, Direct, Hollow, Lawful, Mirrored};
+ghost use Rattle.std.specs.Prelude.{◌≡◌, ◌<◌, length, replicate, is_ok, Decides};
+ghost use Rattle.grade.specs.Tables.{Bounded, Direct, Hollow, Lawful, Mirrored, entry};
 ghost use Rattle.grade.specs.Verdicts.{Verdict};
 
-use crate::flaw::{first_entry, first_way};
+use crate::flaw::first_flaw;
 use refusal::Refusal;
 
 /// A table that obeys the laws of a distance. A new one is 0 throughout, and only `check` changes it.
@@ -38,16 +38,20 @@ impl CheckedTable {
         ensures verdict { Verdict numbers.now self.old.numbers self.new.numbers result }
         ensures exactly { Decides (is_ok result) ((length numbers.now ≡ 256) × Lawful numbers.now) }
     {
-        let Ok(numbers) = <&[u32; 256]>::try_from(numbers) else {
-            return Err(Refusal::TableLength);
-        };
-        if let Some(breach) = first_entry(numbers) {
-            return Err(Refusal::LawBroken(breach));
-        }
-        if let Some(breach) = first_way(numbers) {
+        let numbers = <&[u32; 256]>::try_from(numbers).map_err(|_| Refusal::TableLength)?;
+        if let Some(breach) = first_flaw(numbers) {
             return Err(Refusal::LawBroken(breach));
         }
         self.numbers = *numbers;
         Ok(())
     }
+}
+
+/// The entry at a row and a column.
+pub(crate) fn entry_at(numbers: &[u32; 256], row: u8, column: u8) -> u32
+    requires row { row < 16 }
+    requires column { column < 16 }
+    ensures { result ≡ entry numbers.now row column }
+{
+    numbers[usize::from(row) * 16 + usize::from(column)]
 }

@@ -9,33 +9,26 @@ use fault::Fault;
 use refusal::Refusal;
 use wire::read;
 
-/// What stands at the front: a command and how many bytes it has, the beginning of one, nothing more, or what is none.
-#[derive(Clone, Copy)]
+/// What stands at the front: a command and how many bytes it has, the beginning of one, or nothing more.
+#[derive(Clone, Copy, PartialEq, Eq, Debug)]
 pub enum Arrived {
     Command(Command, usize),
     Part,
     End,
-    Fault(Fault),
 }
 
 /// Looks at the bytes that have come and are not used yet. The first of them has this offset in the feed, and `ended`
-/// says that no more will come.
-pub fn look(bytes: &[u8], offset: usize, ended: bool) -> Arrived
+/// says that no more will come. What begins no command is a fault, and so is a command that the end cuts short.
+// A flag and no enum: no value goes with it, and nobody but the caller knows it.
+pub fn look(bytes: &[u8], offset: usize, ended: bool) -> Result<Arrived, Fault>
     ensures { Arrives bytes.now offset ended result }
 {
     match read(bytes, 0) {
-        Ok((command, size)) => Arrived::Command(command, size),
+        Ok((command, size)) => Ok(Arrived::Command(command, size)),
         Err(fault) => match fault.refusal {
-            Refusal::CutShort => {
-                if !ended {
-                    Arrived::Part
-                } else if bytes.len() == 0 {
-                    Arrived::End
-                } else {
-                    Arrived::Fault(Fault::at(Refusal::CutShort, offset))
-                }
-            }
-            other => Arrived::Fault(Fault::at(other, offset)),
+            Refusal::CutShort if !ended => Ok(Arrived::Part),
+            Refusal::CutShort if bytes.is_empty() => Ok(Arrived::End),
+            refusal => Err(Fault::at(refusal, offset)),
         },
     }
 }

@@ -34,7 +34,7 @@ abbrev pub hex_text : ℕ → List ℕ
 hex_text word = codes " 0x" ++ hex_digits (hex_width word) word
 
 abbrev pub text_of : Command → List ℕ
-text_of (Settings kind k f limit term n) = settings_text kind k f limit ++ term_text term n
+text_of (Settings s) = settings_text s.kind s.k s.f s.limit ++ term_text s.term s.n
 text_of (Radius radius) = codes "radius " ++ decimal radius
 text_of Open = codes "open"
 text_of (Hull day offsets) = codes "hull " ++ decimal day ++ offsets_text offsets

@@ -4,4 +4,4 @@
 
 pub mod text;
 
-pub use text::{LINE_ROOM, put_text};
+pub use text::{LINE_ROOM, text_of};

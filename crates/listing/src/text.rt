@@ -1,147 +1,128 @@
 //! The text of each command.
 
-ghost use Rattle.std.specs.Prelude.{◌≡◌, ℕ, ◌+◌, ◌≤◌, ◌++◌, length, take, drop};
+ghost use Rattle.std.specs.Prelude.{◌≡◌, ◌+◌, ◌≤◌, ◌++◌, length};
 ghost use Rattle.listing.specs.Texts.{text_of, kind_text, term_text, settings_text, offsets_text, hex_text, hex_width};
 
-use command::Command;
-use digits::{put, put_hex, put_number, put_offset};
+use command::{Command, RawSettings};
+use digits::Text;
 
 /// Room for any command's text, and a line feed after it.
 pub const LINE_ROOM: usize = 112;
 
-/// Puts the command's text at the front of `out` and answers how long it is. The rest of the list stays.
-pub fn put_text(command: &Command, out: &mut [u8; LINE_ROOM]) -> usize
-    ensures inside { result ≤ 111 }
-    ensures front { take result out.new ≡ text_of command.now }
-    ensures back { drop result out.new ≡ drop result out.old }
+/// The text of the command.
+// Not a Display: printing can fail, and this cannot.
+pub fn text_of(command: &Command) -> Text<LINE_ROOM>
+    ensures inside { length result ≤ 111 }
+    ensures text { result ≡ text_of command.now }
 {
+    let mut line = Text::new();
     match command {
-        Command::Settings {
-            kind,
-            k,
-            f,
-            limit,
-            term,
-            n,
-        } => {
-            let at = put_settings(out, *kind, *k, *f, *limit);
-            put_term(out, at, *term, *n)
+        Command::Settings(settings) => {
+            put_settings(&mut line, settings);
+            put_term(&mut line, settings.term, settings.n);
         }
         Command::Radius(radius) => {
-            let at = put(out, 0, b"radius ");
-            put_number(out, at, *radius)
+            line.put(b"radius ");
+            line.put_number(*radius);
         }
-        Command::Open => put(out, 0, b"open"),
+        Command::Open => line.put(b"open"),
         Command::Hull { day, offsets } => {
-            let at = put(out, 0, b"hull ");
-            let at = put_number(out, at, *day);
-            put_offsets(out, at, offsets)
+            line.put(b"hull ");
+            line.put_number(*day);
+            put_offsets(&mut line, offsets);
         }
         Command::Joinery { day, word } => {
-            let at = put(out, 0, b"joinery ");
-            let at = put_number(out, at, *day);
-            put_word(out, at, *word)
+            line.put(b"joinery ");
+            line.put_number(*day);
+            put_word(&mut line, *word);
         }
         Command::Day(day) => {
-            let at = put(out, 0, b"day ");
-            put_number(out, at, *day)
+            line.put(b"day ");
+            line.put_number(*day);
         }
-        Command::Pick => put(out, 0, b"pick"),
+        Command::Pick => line.put(b"pick"),
     }
+    line
 }
 
-fn put_settings(out: &mut [u8], kind: u8, k: u8, f: u8, limit: u8) -> usize
-    requires { 100 ≤ length out.old }
-    ensures bound { result ≤ 72 }
-    ensures front { take result out.new ≡ settings_text kind k f limit }
-    ensures back { (i : ℕ) → result ≤ i → drop i out.new ≡ drop i out.old }
+/// The settings but for the term.
+fn put_settings(line: &mut Text<LINE_ROOM>, settings: &RawSettings)
+    requires { length line.old + 64 ≤ LINE_ROOM }
+    ensures is { line.new ≡ line.old ++ settings_text settings.now.kind settings.now.k settings.now.f settings.now.limit }
+    ensures bound { length line.new ≤ length line.old + 64 }
 {
-    let at = put(out, 0, b"settings ");
-    let at = put_kind(out, at, kind);
-    let at = put(out, at, b" k ");
-    let at = put_number(out, at, u32::from(k));
-    let at = put(out, at, b" f ");
-    let at = put_number(out, at, u32::from(f));
-    let at = put(out, at, b" F ");
-    let at = put_number(out, at, u32::from(limit));
-    put(out, at, b" ")
+    line.put(b"settings ");
+    put_kind(line, settings.kind);
+    line.put(b" k ");
+    line.put_number(u32::from(settings.k));
+    line.put(b" f ");
+    line.put_number(u32::from(settings.f));
+    line.put(b" F ");
+    line.put_number(u32::from(settings.limit));
+    line.put(b" ");
 }
 
-fn put_kind(out: &mut [u8], at: usize, kind: u8) -> usize
-    requires { at + 15 ≤ length out.old }
-    ensures bound { (at ≤ result) × (result ≤ at + 15) }
-    ensures front { take result out.new ≡ take at out.old ++ kind_text kind }
-    ensures back { (k : ℕ) → result ≤ k → drop k out.new ≡ drop k out.old }
+fn put_kind(line: &mut Text<LINE_ROOM>, kind: u8)
+    requires { length line.old + 15 ≤ LINE_ROOM }
+    ensures is { line.new ≡ line.old ++ kind_text kind }
+    ensures bound { length line.new ≤ length line.old + 15 }
 {
     match kind {
-        0 => put(out, at, b"hull"),
-        1 => put(out, at, b"joinery"),
+        0 => line.put(b"hull"),
+        1 => line.put(b"joinery"),
         _ => {
-            let at = put(out, at, b"kind ");
-            put_number(out, at, u32::from(kind))
+            line.put(b"kind ");
+            line.put_number(u32::from(kind));
         }
     }
 }
 
-fn put_term(out: &mut [u8], at: usize, term: u8, n: u32) -> usize
-    requires { at + 28 ≤ length out.old }
-    ensures bound { (at ≤ result) × (result ≤ at + 28) }
-    ensures front { take result out.new ≡ take at out.old ++ term_text term n }
-    ensures back { (k : ℕ) → result ≤ k → drop k out.new ≡ drop k out.old }
+fn put_term(line: &mut Text<LINE_ROOM>, term: u8, n: u32)
+    requires { length line.old + 28 ≤ LINE_ROOM }
+    ensures is { line.new ≡ line.old ++ term_text term n }
+    ensures bound { length line.new ≤ length line.old + 28 }
 {
     match term {
-        0 => {
-            let at = put(out, at, b"by number ");
-            put_number(out, at, n)
-        }
-        1 => {
-            let at = put(out, at, b"by days ");
-            put_number(out, at, n)
-        }
+        0 => line.put(b"by number "),
+        1 => line.put(b"by days "),
         _ => {
-            let at = put(out, at, b"term ");
-            let at = put_number(out, at, u32::from(term));
-            let at = put(out, at, b" n ");
-            put_number(out, at, n)
+            line.put(b"term ");
+            line.put_number(u32::from(term));
+            line.put(b" n ");
         }
     }
+    line.put_number(n);
 }
 
-fn put_offsets(out: &mut [u8], mut at: usize, offsets: &[i32; 8]) -> usize
-    requires { at + 96 ≤ length out.old }
-    ensures bound { (at ≤ result) × (result ≤ at + 96) }
-    ensures front { take result out.new ≡ take at out.old ++ offsets_text offsets.now }
-    ensures back { (k : ℕ) → result ≤ k → drop k out.new ≡ drop k out.old }
+fn put_offsets(line: &mut Text<LINE_ROOM>, offsets: &[i32; 8])
+    requires { length line.old + 96 ≤ LINE_ROOM }
+    ensures is { line.new ≡ line.old ++ offsets_text offsets.now }
+    ensures bound { length line.new ≤ length line.old + 96 }
 {
-    for i in 0..8usize {
-        at = put(out, at, b" ");
-        at = put_offset(out, at, offsets[i]);
+    for offset in offsets {
+        line.put(b" ");
+        line.put_offset(*offset);
     }
-    at
 }
 
 /// The word in two, four, eight or sixteen hexadecimal digits.
-fn put_word(out: &mut [u8], at: usize, word: u64) -> usize
-    requires { at + 19 ≤ length out.old }
-    ensures bound { (at ≤ result) × (result ≤ at + 19) }
-    ensures front { take result out.new ≡ take at out.old ++ hex_text word }
-    ensures back { (k : ℕ) → result ≤ k → drop k out.new ≡ drop k out.old }
+fn put_word(line: &mut Text<LINE_ROOM>, word: u64)
+    requires { length line.old + 19 ≤ LINE_ROOM }
+    ensures is { line.new ≡ line.old ++ hex_text word }
+    ensures bound { length line.new ≤ length line.old + 19 }
 {
-    let digits = put(out, at, b" 0x");
-    put_hex(out, digits, word, hex_width(word))
+    line.put(b" 0x");
+    line.put_hex(word, hex_width(word));
 }
 
 fn hex_width(word: u64) -> usize
     ensures is { result ≡ hex_width word }
     ensures bound { result ≤ 16 }
 {
-    if word < 0x100 {
-        2
-    } else if word < 0x1_0000 {
-        4
-    } else if word < 0x1_0000_0000 {
-        8
-    } else {
-        16
+    match word {
+        ..=0xFF => 2,
+        ..=0xFFFF => 4,
+        ..=0xFFFF_FFFF => 8,
+        _ => 16,
     }
 }

@@ -6,7 +6,6 @@ use std::fmt;
 /// The answer to a line.
 #[derive(Drop)]
 pub enum Reply {
-    Nothing,
     Distance(u32),
     Reach(u32),
     Counts(bool),
@@ -16,7 +15,6 @@ pub enum Reply {
 impl fmt::Display for Reply {
     fn fmt<W: fmt::Write>(&self, f: &mut fmt::Formatter<W>) -> fmt::Result {
         match self {
-            Reply::Nothing => Ok(()),
             Reply::Distance(distance) => write!(f, "distance {distance}"),
             Reply::Reach(radius) => write!(f, "reach {radius}"),
             Reply::Counts(true) => write!(f, "yes"),

@@ -13,7 +13,6 @@ mod request;
 mod window;
 mod words;
 
-use answer::Reply;
 use request::answer_line;
 use words::Trouble;
 
@@ -46,6 +45,7 @@ fn answer_all(rt: &HostRuntime, echo: bool) -> anyhow::Result<()> {
     let mut input = BufReader::new(rt.alloc(), rt.stdin())?;
     let mut table = CheckedTable::new();
     let mut line = Vec::new(rt.alloc());
+    // A counted loop: nobody knows where the input ends.
     for number in 1..u64::MAX {
         line.clear();
         if input.read_until(b'\n', &mut line)? == 0 {
@@ -55,8 +55,8 @@ fn answer_all(rt: &HostRuntime, echo: bool) -> anyhow::Result<()> {
             rt.stdout().write_all(line.as_slice())?;
         }
         match answer_line(rt.alloc(), line.as_slice(), &mut table) {
-            Ok(Reply::Nothing) => {}
-            Ok(reply) => println!(rt; "{reply}")?,
+            Ok(None) => {}
+            Ok(Some(reply)) => println!(rt; "{reply}")?,
             Err(Trouble::Refused(refusal)) => {
                 let code = refusal.number();
                 println!(rt; "refused {code}: {refusal}")?;
@@ -70,10 +70,11 @@ fn answer_all(rt: &HostRuntime, echo: bool) -> anyhow::Result<()> {
 fn run(rt: &HostRuntime) -> anyhow::Result<()> {
     let mut args = env::args(rt)?;
     let _program = args.next();
-    match args.next() {
+    let word = args.next();
+    match word.as_deref() {
         None => answer_all(rt, false),
-        Some(word) if word.as_str() == "--echo" => answer_all(rt, true),
-        Some(word) if word.as_str() == "--help" => {
+        Some("--echo") => answer_all(rt, true),
+        Some("--help") => {
             print!(rt; "{HELP}")?;
             Ok(())
         }

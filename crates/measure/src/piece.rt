@@ -1,13 +1,16 @@
 //! Pieces read from words.
 
+ghost use Rattle.measure.specs.Reading.{Shortened};
+
 use crate::words::{Trouble, Words};
 use grade::Grade;
 use refusal::Refusal;
 use tape::{Joined, Panel, Part};
 
-/// A piece that a line can name.
+/// A piece that a line can name by some of its words.
 pub trait Read: Sized {
-    fn read(words: &mut Words<'_>) -> Result<Self, Trouble>;
+    fn read(words: &mut Words<'_>) -> Result<Self, Trouble>
+        ensures { Shortened words.old words.new result };
 }
 
 impl Read for Panel {
@@ -22,25 +25,25 @@ impl Read for Panel {
 
 impl Read for Part {
     fn read(words: &mut Words<'_>) -> Result<Part, Trouble> {
-        let word = words.fittings()?;
-        Ok(Part { word })
+        Ok(Part {
+            word: words.fittings()?,
+        })
     }
 }
 
 /// A number that no grade can be is refused as any grade out of range.
 impl Read for Grade {
     fn read(words: &mut Words<'_>) -> Result<Grade, Trouble> {
-        match u8::try_from(words.number()?) {
-            Ok(number) => Ok(Grade::new(number)?),
-            Err(_) => Err(Trouble::Refused(Refusal::PieceOutOfRange)),
-        }
+        let number = u8::try_from(words.number()?).map_err(|_| Refusal::PieceOutOfRange)?;
+        Ok(Grade::new(number)?)
     }
 }
 
 impl<A: Read + Drop, B: Read> Read for Joined<A, B> {
     fn read(words: &mut Words<'_>) -> Result<Joined<A, B>, Trouble> {
-        let left = A::read(words)?;
-        let right = B::read(words)?;
-        Ok(Joined { left, right })
+        Ok(Joined {
+            left: A::read(words)?,
+            right: B::read(words)?,
+        })
     }
 }

@@ -11,29 +11,29 @@ use std::str::from_utf8;
 use tape::{HullTape, JoinedTape, JoineryTape, Tape, lay};
 use term::{Clock, Stamp, Term};
 
-/// Answers one line.
-pub fn answer_line(heap: Global, line: &[u8], table: &mut CheckedTable) -> Result<Reply, Trouble> {
-    let Ok(text) = from_utf8(line) else {
-        return Err(Trouble::Expected(Expected::Text));
-    };
+/// Answers one line; a blank line and a remark get no answer.
+pub fn answer_line(
+    heap: Global,
+    line: &[u8],
+    table: &mut CheckedTable,
+) -> Result<Option<Reply>, Trouble> {
+    let text = from_utf8(line).map_err(|_| Expected::Text)?;
     let mut words = Words::new(text);
-    let Some(first) = words.next() else {
-        return Ok(Reply::Nothing);
+    let Some(first) = words.next().filter(|word| !word.starts_with("#")) else {
+        return Ok(None);
     };
-    if first.starts_with("#") {
-        return Ok(Reply::Nothing);
-    }
-    match first {
-        "table" => check(heap, &mut words, table),
-        "counts" => counts(&mut words),
-        "reach" => radius(heap, &mut words),
+    let reply = match first {
+        "table" => check(heap, words, table)?,
+        "counts" => counts(&mut words)?,
+        "reach" => radius(heap, &mut words)?,
         "cut" => {
             let cap = words.number()?;
-            distance(words.next(), Some(cap), &mut words, table)
+            distance(words.next(), Some(cap), &mut words, table)?
         }
-        "hull" | "joinery" | "sheet" | "board" => distance(Some(first), None, &mut words, table),
-        _ => Err(Trouble::Expected(Expected::Request)),
-    }
+        "hull" | "joinery" | "sheet" | "board" => distance(Some(first), None, &mut words, table)?,
+        _ => return Err(Expected::Request.into()),
+    };
+    Ok(Some(reply))
 }
 
 /// The distance of two pieces of a kind.
@@ -56,7 +56,7 @@ fn distance(
             cut,
             words,
         ),
-        _ => Err(Trouble::Expected(Expected::Kind)),
+        _ => Err(Expected::Kind.into()),
     }
 }
 
@@ -74,34 +74,24 @@ fn between<P: Read + Drop, T: Tape<P> + Drop>(
 }
 
 /// Checks a table, which serves from then on if it is accepted.
-fn check(heap: Global, words: &mut Words<'_>, table: &mut CheckedTable) -> Result<Reply, Trouble> {
-    let mut numbers = Vec::new(heap);
-    for _ in 0..u64::MAX {
-        let Some(word) = words.next() else {
-            break;
-        };
-        numbers.push(number_in(word)?)?;
-    }
+fn check(heap: Global, words: Words<'_>, table: &mut CheckedTable) -> Result<Reply, Trouble> {
+    let numbers: Vec<u32> = words.map(number_in).try_collect(heap)?;
     table.check(numbers.as_slice())?;
     Ok(Reply::Table(*table))
 }
 
 fn clock(words: &mut Words<'_>) -> Result<Clock, Trouble> {
     words.word(Expected::At)?;
-    words.word(Expected::Posts)?;
-    let posts = words.number()?;
-    words.word(Expected::Day)?;
-    let day = words.number()?;
+    let posts = words.number_after(Expected::Posts)?;
+    let day = words.number_after(Expected::Day)?;
     Ok(Clock { posts, day })
 }
 
 /// Whether a piece still counts.
 fn counts(words: &mut Words<'_>) -> Result<Reply, Trouble> {
     let term = Window::read(words)?;
-    words.word(Expected::Arrival)?;
-    let arrival = words.number()?;
-    words.word(Expected::Day)?;
-    let day = words.number()?;
+    let arrival = words.number_after(Expected::Arrival)?;
+    let day = words.number_after(Expected::Day)?;
     let clock = clock(words)?;
     words.end()?;
     Ok(Reply::Counts(term.still(Stamp { arrival, day }, clock)))
@@ -112,7 +102,7 @@ fn radius(heap: Global, words: &mut Words<'_>) -> Result<Reply, Trouble> {
     match words.next() {
         Some("hull") => radius_by(heap, &HullTape, words),
         Some("joinery") => radius_by(heap, &JoineryTape, words),
-        _ => Err(Trouble::Expected(Expected::Board)),
+        _ => Err(Expected::Board.into()),
     }
 }
 
@@ -126,10 +116,7 @@ fn radius_by<P: Read + Drop, T: Tape<P>>(
     let clock = clock(words)?;
     words.word(Expected::Over)?;
     let mut posted = Vec::new(heap);
-    for _ in 0..u64::MAX {
-        let Some(word) = words.next() else {
-            break;
-        };
+    while let Some(word) = words.next() {
         let arrival = number_in(word)?;
         let day = words.number()?;
         let piece = P::read(words)?;

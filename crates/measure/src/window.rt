@@ -44,7 +44,7 @@ impl Window {
                 let (first, second) = two(words, Expected::Or)?;
                 Ok(Window::Either(Either { first, second }))
             }
-            _ => Err(Trouble::Expected(Expected::Term)),
+            _ => Err(Expected::Term.into()),
         }
     }
 }
@@ -54,7 +54,7 @@ fn span(words: &mut Words<'_>) -> Result<Span, Trouble> {
     match words.next() {
         Some("number") => Ok(Span::Pieces(ByNumber::new(words.number()?)?)),
         Some("days") => Ok(Span::Days(ByDays::new(words.number()?)?)),
-        _ => Err(Trouble::Expected(Expected::Unit)),
+        _ => Err(Expected::Unit.into()),
     }
 }
 

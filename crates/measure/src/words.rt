@@ -1,5 +1,8 @@
 //! Words of a request, read one after another.
 
+ghost use Rattle.std.specs.Iterator.{at_most};
+ghost use Rattle.measure.specs.Reading.{Shortened, left};
+
 use refusal::Refusal;
 use std::alloc::{AllocError, AllocFailed};
 use std::fmt;
@@ -64,6 +67,12 @@ impl Expected {
     }
 }
 
+impl From<Expected> for Trouble {
+    fn from(expected: Expected) -> Trouble {
+        Trouble::Expected(expected)
+    }
+}
+
 impl From<Refusal> for Trouble {
     fn from(refusal: Refusal) -> Trouble {
         Trouble::Refused(refusal)
@@ -108,65 +117,72 @@ impl<'a> Words<'a> {
         }
     }
 
-    pub fn next(&mut self) -> Option<&'a str> {
-        self.rest.next()
+    /// The next word, where `expected` should stand.
+    fn some(&mut self, expected: Expected) -> Result<&'a str, Expected>
+        ensures { Shortened self.old self.new result }
+    {
+        self.next().ok_or(expected)
     }
 
     /// Reads the word that is expected.
     pub fn word(&mut self, expected: Expected) -> Result<(), Trouble> {
-        match self.rest.next() {
+        match self.next() {
             Some(word) if word == expected.text() => Ok(()),
-            _ => Err(Trouble::Expected(expected)),
+            _ => Err(expected.into()),
         }
     }
 
     pub fn end(&mut self) -> Result<(), Trouble> {
-        match self.rest.next() {
+        match self.next() {
             None => Ok(()),
-            Some(_) => Err(Trouble::Expected(Expected::End)),
+            Some(_) => Err(Expected::End.into()),
         }
     }
 
-    pub fn number(&mut self) -> Result<u32, Trouble> {
-        match self.rest.next() {
-            Some(word) => number_in(word),
-            None => Err(Trouble::Expected(Expected::Number)),
-        }
+    pub fn number(&mut self) -> Result<u32, Trouble>
+        ensures { Shortened self.old self.new result }
+    {
+        number_in(self.some(Expected::Number)?)
+    }
+
+    /// The number that follows the word that is expected.
+    pub fn number_after(&mut self, expected: Expected) -> Result<u32, Trouble> {
+        self.word(expected)?;
+        self.number()
     }
 
     /// A number with a sign, where one that no offset can be is refused as any offset out of range.
-    pub fn offset(&mut self) -> Result<i32, Trouble> {
-        let Some(word) = self.rest.next() else {
-            return Err(Trouble::Expected(Expected::Offset));
-        };
-        let Ok(wide) = word.parse::<i64>() else {
-            return Err(Trouble::Expected(Expected::Offset));
-        };
-        match i32::try_from(wide) {
-            Ok(offset) => Ok(offset),
-            Err(_) => Err(Trouble::Refused(Refusal::PieceOutOfRange)),
-        }
+    pub fn offset(&mut self) -> Result<i32, Trouble>
+        ensures { Shortened self.old self.new result }
+    {
+        let word = self.some(Expected::Offset)?;
+        let wide = word.parse::<i64>().map_err(|_| Expected::Offset)?;
+        Ok(i32::try_from(wide).map_err(|_| Refusal::PieceOutOfRange)?)
     }
 
     /// A word of fittings, in decimal or after 0x.
-    pub fn fittings(&mut self) -> Result<u64, Trouble> {
-        let Some(word) = self.rest.next() else {
-            return Err(Trouble::Expected(Expected::Fittings));
-        };
+    pub fn fittings(&mut self) -> Result<u64, Trouble>
+        ensures { Shortened self.old self.new result }
+    {
+        let word = self.some(Expected::Fittings)?;
         let read = match word.strip_prefix("0x") {
             Some(digits) => u64::from_str_radix(digits, 16),
             None => word.parse::<u64>(),
         };
-        match read {
-            Ok(fittings) => Ok(fittings),
-            Err(_) => Err(Trouble::Expected(Expected::Fittings)),
-        }
+        Ok(read.map_err(|_| Expected::Fittings)?)
+    }
+}
+
+impl<'a> Iterator for Words<'a> {
+    type Item = &'a str;
+
+    ghost remaining = { λ words. at_most (left words) };
+
+    fn next(&mut self) -> Option<&'a str> {
+        self.rest.next()
     }
 }
 
 pub fn number_in(word: &str) -> Result<u32, Trouble> {
-    match word.parse::<u32>() {
-        Ok(n) => Ok(n),
-        Err(_) => Err(Trouble::Expected(Expected::Number)),
-    }
+    Ok(word.parse::<u32>().map_err(|_| Expected::Number)?)
 }

@@ -20,7 +20,7 @@ panel_of offsets = cond (in_range 8 offsets) (Ok (record { offsets = offsets }))
 
 -- the order of the command that begins at an offset
 abbrev pub order_of : ℕ → Command → Result Order Fault
-order_of at (Settings kind k f limit term n) = Ok (To.Settings kind k f limit term n)
+order_of at (Settings s) = Ok (To.Settings s)
 order_of at (Radius radius) = Ok (To.Radius radius)
 order_of at Open = Ok To.Open
 order_of at (Hull day offsets) = and_then (located_at at (panel_of offsets)) (λ panel. Ok (To.Hull day panel))

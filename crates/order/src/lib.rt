@@ -3,34 +3,22 @@
 #![tactic(auto)]
 
 ghost use Rattle.std.specs.Prelude.{◌≡◌};
-ghost use Rattle.order.specs.Orders.{order_of, panel_of};
 ghost use Rattle.fault.specs.Faults.{located_at};
+ghost use Rattle.order.specs.Orders.{order_of, panel_of};
 
-use command::Command;
+use command::{Command, RawSettings};
 use fault::{Fault, located};
 use tape::{Panel, Part};
 
 /// A command with its piece made, if it brings one. What else it says is judged above.
+// An enum of its own: one generic in its pieces would have every definition of a command name two more types.
 #[derive(Clone, Copy)]
 pub enum Order {
-    Settings {
-        kind: u8,
-        k: u8,
-        f: u8,
-        limit: u8,
-        term: u8,
-        n: u32,
-    },
+    Settings(RawSettings),
     Radius(u32),
     Open,
-    Hull {
-        day: u32,
-        panel: Panel,
-    },
-    Joinery {
-        day: u32,
-        part: Part,
-    },
+    Hull { day: u32, panel: Panel },
+    Joinery { day: u32, part: Part },
     Day(u32),
     Pick,
 }
@@ -42,21 +30,7 @@ impl Order {
         ensures { result ≡ order_of offset command }
     {
         match command {
-            Command::Settings {
-                kind,
-                k,
-                f,
-                limit,
-                term,
-                n,
-            } => Ok(Order::Settings {
-                kind,
-                k,
-                f,
-                limit,
-                term,
-                n,
-            }),
+            Command::Settings(settings) => Ok(Order::Settings(settings)),
             Command::Radius(radius) => Ok(Order::Radius(radius)),
             Command::Open => Ok(Order::Open),
             Command::Hull { day, offsets } => {

@@ -1,7 +1,10 @@
 -- A change between two places leaves the lists before and after it.
-use Rattle.std.proofs.Common.{◌≡◌, ℕ, ◌+◌, ◌-◌, ◌<◌, ◌≤◌, List, take, drop, set, sym, refl, ap, ◌∙◌, arith}
+use Rattle.std.proofs.Common.{◌≡◌, ℕ, ◌+◌, ◌-◌, ◌<◌, ◌≤◌, List, take, drop, set, length, sym, refl, ap, ◌∙◌, arith, rules, subst}
 use Rattle.std.proofs.lemmas.List.{drop-drop, drop-set-lt, drop-take, take-set-le, take-take}
+use Rattle.std.proofs.lemmas.Slice.{overwrites}
+use borrow.Rule.Slice.PartMut.{put_mid}
 use Rattle.packed.specs.Lists.{Between, cut}
+use Rattle.packed.proofs.Packing.{cut_put_mid}
 
 -- lists that agree before m agree before each n below it
 take_front : {X : Type 0} (n m : ℕ) (xs ys : List X) → n ≤ m → take m ys ≡ take m xs → take n ys ≡ take n xs
@@ -34,3 +37,20 @@ between_same low high xs = record { before = refl; after = refl }
 
 pub between_set : {X : Type 0} (low high i : ℕ) (xs : List X) (x : X) → low ≤ i → i < high → Between low high xs (set xs i x)
 between_set low high i xs x h k = record { before = take-set-le low xs i x h; after = drop-set-lt high xs i x k }
+
+-- a part from `at` on was handed on, and came back as ys
+pub between_put : {X : Type 0} (at len : ℕ) (xs ys : List X) → at ≤ length xs → length ys ≡ len → Between at (at + len) xs (put_mid at len xs ys)
+between_put at len xs ys h l = record { before = search (rules, overwrites); after = search (rules, overwrites) }
+
+-- What stands in a list of n from b on, and around it, after its slice was handed on and came back as ys, of which the first m
+-- are f of what they were. The slice is from a to a + n, by a computed a.
+pub put_at : {X : Type 0} (f : List X → List X) (a b k n m : ℕ) (xs ys : List X) → a ≡ b → k ≡ n → b + n ≤ length xs → length ys ≡ n → m ≤ n
+    → take m ys ≡ f (take k (drop a xs))
+    → (cut b m (put_mid a k xs ys) ≡ f (cut b n xs)) × Between b (b + n) xs (put_mid a k xs ys) × (length (put_mid a k xs ys) ≡ length xs)
+put_at f a b k n m xs ys ea ek room len few is =
+    let same : put_mid a k xs ys ≡ put_mid b n xs ys = ap (λ i. put_mid i k xs ys) ea ∙ ap (λ j. put_mid b j xs ys) ek in
+    let front : take m ys ≡ f (cut b n xs) = is ∙ ap (λ i. f (take k (drop i xs))) ea ∙ ap (λ j. f (take j (drop b xs))) ek in (
+      ap (cut b m) same ∙ cut_put_mid b n m xs ys (omega arith) (omega arith) ∙ front,
+      subst (Between b (b + n) xs) (sym same) (between_put b n xs ys (omega arith) len),
+      ap length same ∙ search (rules, overwrites),
+    )

@@ -1,6 +1,6 @@
 -- A loop that moves what is marked to the front.
-use Rattle.std.proofs.Common.{◌≡◌, ℕ, ◌+◌, ◌-◌, ◌<◌, ◌≤◌, Bool, true, false, cond, List, [], ◌∷◌, ◌++◌, map, length, get_or, take, drop, set, filter, sym, refl, ap, ◌∙◌, append-nil, arith, length-drop, length-set}
-use Rattle.std.proofs.lemmas.List.{drop_at, drop_more, drop-set-lt, length-take-le, take_all, take-append-le, take_more, take_more_set}
+use Rattle.std.proofs.Common.{◌≡◌, ℕ, zero, suc, ◌+◌, ◌-◌, ◌<◌, ◌≤◌, Bool, true, false, cond, List, [], ◌∷◌, ◌++◌, map, length, get_or, take, drop, set, filter, sym, refl, ap, ◌∙◌, append-nil, arith, length-drop, length-set}
+use Rattle.std.proofs.lemmas.List.{drop_at, drop_more, drop-set-lt, length-take-le, take-append-le, take_more, take_more_set}
 use borrow.Rule.Slice.PartMut.{put_mid}
 use Rattle.packed.specs.Lists.{cut, picked}
 
@@ -59,31 +59,20 @@ packing_more_set bs xs ys m i x p h l t is =
       long = length-set ys m x ∙ p.long;
     }
 
--- x, read at i, is marked and stands where it is to stand
-pub packing_more_here : {X : Type 0} (bs : List Bool) (xs ys : List X) (m i : ℕ) (x : X)
-    → Packing bs xs ys m i → i < length ys → length ys ≤ length bs → get_or bs i false ≡ true → x ≡ get_or ys i x → m ≡ i
-    → Packing bs xs ys (m + 1) (i + 1)
-packing_more_here bs xs ys m i x p h l t is e =
-    let more = marked_more bs xs ys m i x p h l is in
-    record {
-      front =
-          take_more ys m x (omega arith)
-          ∙ ap (λ j. take m ys ++ (get_or ys j x ∷ [])) e
-          ∙ ap (λ y. take m ys ++ (y ∷ [])) (sym is)
-          ∙ ap (λ zs. zs ++ (x ∷ [])) p.front
-          ∙ ap (λ b. picked bs (take i xs) ++ cond b (x ∷ []) []) (sym t)
-          ∙ sym more;
-      rest = (behind_at xs ys i x h p.long p.rest).1;
-      behind = omega arith;
-      long = p.long;
-    }
+-- an element stands at each index
+at_index : {X : Type 0} (xs : List X) (i : ℕ) → i < length xs → (x : X) × (x ≡ get_or xs i x)
+at_index [] i h = absurd (omega arith)
+at_index (x ∷ xs) zero h = (x, refl)
+at_index (x ∷ xs) (suc i) h = at_index xs i (omega arith)
 
--- x, read at i, is not marked
-pub packing_more_no : {X : Type 0} (bs : List Bool) (xs ys : List X) (m i : ℕ) (x : X)
-    → Packing bs xs ys m i → i < length ys → length ys ≤ length bs → get_or bs i false ≡ false → x ≡ get_or ys i x
+-- what stands at i is not marked
+pub packing_more_no : {X : Type 0} (bs : List Bool) (xs ys : List X) (m i : ℕ)
+    → Packing bs xs ys m i → i < length ys → length ys ≤ length bs → get_or bs i false ≡ false
     → Packing bs xs ys m (i + 1)
-packing_more_no bs xs ys m i x p h l t is =
+packing_more_no bs xs ys m i p h l t =
     let low = p.behind in
+    let x = (at_index ys i h).0 in
+    let is = (at_index ys i h).1 in
     let more = marked_more bs xs ys m i x p h l is in
     record {
       front =
@@ -95,9 +84,6 @@ packing_more_no bs xs ys m i x p h l t is =
       behind = omega arith;
       long = p.long;
     }
-
-pub packing_all : {X : Type 0} (bs : List Bool) (xs ys : List X) (m i : ℕ) → Packing bs xs ys m i → length xs ≤ i → take m ys ≡ picked bs xs
-packing_all bs xs ys m i p h = p.front ∙ ap (picked bs) (take_all i xs h)
 
 -- what the first r places of a part are after the part was handed on
 pub cut_put_mid : {X : Type 0} (a k r : ℕ) (xs ys : List X) → a ≤ length xs → r ≤ length ys → take r (drop a (put_mid a k xs ys)) ≡ take r ys
@@ -120,10 +106,3 @@ picked_by f (b ∷ bs) (x ∷ xs) e =
 
 pub length_cut : {X : Type 0} (at len : ℕ) (xs : List X) → at + len ≤ length xs → length (cut at len xs) ≡ len
 length_cut at len xs h = length-take-le len (drop at xs) (simp length-drop (omega arith))
-
--- what is kept of a list in a part
-pub picked-cut : {X : Type 0} (f : X → Bool) (bs : List Bool) (at len : ℕ) (xs : List X) → at + len ≤ length xs
-    → take len bs ≡ map f (cut at len xs)
-    → picked bs (cut at len xs) ≡ filter f (cut at len xs)
-picked-cut f bs at len xs h e =
-    picked_by f bs (cut at len xs) (ap (λ n. take n bs) (length_cut at len xs h) ∙ e)

@@ -1,5 +1,5 @@
 -- Lists in a slice.
-use Rattle.std.specs.Prelude.{◌≡◌, ℕ, suc, ◌<◌, ◌≤◌, Bool, true, cond, ◌&&◌, List, [], ◌∷◌, length, take, drop, slice_index_or}
+use Rattle.std.specs.Prelude.{◌≡◌, ℕ, ◌<◌, ◌≤◌, Bool, cond, List, [], ◌∷◌, length, take, drop, slice_index_or}
 use Rattle.rules.specs.declared.place.Place.{Place}
 
 -- the list of `len` from `at` on
@@ -11,16 +11,6 @@ abbrev pub picked : {X : Type 0} → List Bool → List X → List X
 picked bs [] = []
 picked [] (x ∷ xs) = []
 picked (b ∷ bs) (x ∷ xs) = cond b (x ∷ picked bs xs) (picked bs xs)
-
--- the index of the first that passes, or the length
-abbrev pub first_at : {X : Type 0} → (X → Bool) → List X → ℕ
-first_at test [] = 0
-first_at test (x ∷ xs) = cond (test x) 0 (suc (first_at test xs))
-
--- whether every one passes
-abbrev pub all_pass : {X : Type 0} → (X → Bool) → List X → Bool
-all_pass test [] = true
-all_pass test (x ∷ xs) = test x && all_pass test xs
 
 -- ys is xs but for the places from `low` on and before `high`
 pub record Between {X : Type 0} (low high : ℕ) (xs ys : List X) : Type 0 where

@@ -6,6 +6,6 @@ pub mod search;
 pub mod stay;
 pub mod test;
 
-pub use search::{all_in, first_in, least_in};
-pub use stay::{keep, marks_in, pack, remove};
+pub use search::{all_of, first_of, least_of};
+pub use stay::{keep, marks, pack, remove};
 pub use test::{Counting, Near, Since, StandingFor, Test};

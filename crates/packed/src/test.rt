@@ -5,9 +5,10 @@ ghost use Rattle.rules.specs.declared.place.Place.{Place};
 
 use rules::Place;
 use tape::Tape;
-use term::{Clock, Stamp, Term};
+use term::{Clock, Term};
 
 /// A question about a place of the shelf.
+// Not a closure: a list is filtered by the function `passes`, and of a closure a contract has but a relation, `F.post`.
 pub trait Test<P> {
     ghost passes: { Self → Place P → Bool };
 
@@ -26,13 +27,7 @@ impl<'a, P, W: Term> Test<P> for Counting<'a, W> {
     ghost passes = { λ t x. W.Term.counts t.term.now x.arrival x.day t.clock.posts t.clock.day };
 
     fn passes_at(&self, place: &Place<P>) -> bool {
-        self.term.still(
-            Stamp {
-                arrival: place.arrival,
-                day: place.day,
-            },
-            self.clock,
-        )
+        self.term.still(place.stamp(), self.clock)
     }
 }
 

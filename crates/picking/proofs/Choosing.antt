@@ -1,7 +1,7 @@
 -- The trial over the representatives of one radius.
 use Rattle.std.proofs.Common.{◌≡◌, ℕ, ◌+◌, ◌<◌, ◌≤◌, Bool, true, false, cond, ◌||◌, leb, List, [], ◌∷◌, ◌++◌, length, get_or, take, drop, set, sym, refl, ap, ◌∙◌, subst, append_assoc, append-nil, arith, length-append, length-set}
-use Rattle.std.specs.List.{AllByRecursion as Every}
-use Rattle.std.proofs.ByRecursion.{All-push}
+use Rattle.std.specs.List.{All, AllByRecursion as Every, list_any}
+use Rattle.std.proofs.lemmas.List.Elements.{All-from_recursion, All-push, recursion_from_All}
 use Rattle.std.proofs.lemmas.List.{at_drop_all, at_drop_more, drop_more, length_push, length-take-le, take_more_set}
 use Rattle.std.proofs.lemmas.Bool.{le-leb, lt-leb}
 use Rattle.packed.specs.Lists.{cut}
@@ -28,29 +28,13 @@ length-gathered (i ∷ is) (x ∷ xs) h =
     length-append (cut i 1 (x ∷ xs)) (gathered is (x ∷ xs)) ∙ omega arith
 
 module _ {P : Type 0} (dist : Distance P) (r : ℕ) where
-  -- a search among those at some indices: it has come to n, where the distance is d
-  near_step : (is : List ℕ) (xs : List (Place P)) (n : ℕ) (y x : Place P) → n < length is → get_or is n 0 < length xs
-      → any_within dist r (gathered (drop n is) xs) x
-      ≡ leb (dist (get_or xs (get_or is n 0) y).piece x.piece) r || any_within dist r (gathered (drop (n + 1) is) xs) x
-  near_step is xs n y x h low =
-      at_drop_more (λ js. any_within dist r (gathered js xs) x) is n 0 h
-      ∙ ap (λ ys. any_within dist r (take 1 ys ++ gathered (drop (n + 1) is) xs) x) (drop_more xs (get_or is n 0) y low)
-
-  pub near_here : (is : List ℕ) (xs : List (Place P)) (n d : ℕ) (y x : Place P) → n < length is → get_or is n 0 < length xs
-      → d ≡ dist (get_or xs (get_or is n 0) y).piece x.piece → d ≤ r → any_within dist r (gathered (drop n is) xs) x ≡ true
-  near_here is xs n d y x h low e near =
-      near_step is xs n y x h low
-      ∙ ap (λ b. b || any_within dist r (gathered (drop (n + 1) is) xs) x) (le-leb (dist (get_or xs (get_or is n 0) y).piece x.piece) r (omega arith))
-
-  pub near_on : (is : List ℕ) (xs : List (Place P)) (n d : ℕ) (y x : Place P) → n < length is → get_or is n 0 < length xs
-      → d ≡ dist (get_or xs (get_or is n 0) y).piece x.piece → r < d
-      → any_within dist r (gathered (drop n is) xs) x ≡ any_within dist r (gathered (drop (n + 1) is) xs) x
-  near_on is xs n d y x h low e far =
-      near_step is xs n y x h low
-      ∙ ap (λ b. b || any_within dist r (gathered (drop (n + 1) is) xs) x) (lt-leb (dist (get_or xs (get_or is n 0) y).piece x.piece) r (omega arith))
-
-  pub near_none : (is : List ℕ) (xs : List (Place P)) (n : ℕ) (x : Place P) → length is ≤ n → any_within dist r (gathered (drop n is) xs) x ≡ false
-  near_none is xs n x h = at_drop_all (λ js. any_within dist r (gathered js xs) x) is n h
+  -- a search among those at some indices, which reads y where there is none
+  pub near_any : (is : List ℕ) (xs : List (Place P)) (x y : Place P) → Every (λ i. i < length xs) is
+      → list_any (λ i. leb (dist (get_or xs i y).piece x.piece) r) is ≡ any_within dist r (gathered is xs) x
+  near_any [] xs x y h = refl
+  near_any (i ∷ is) xs x y h =
+      ap (λ b. leb (dist (get_or xs i y).piece x.piece) r || b) (near_any is xs x y h.1)
+      ∙ sym (ap (λ ys. any_within dist r (take 1 ys ++ gathered is xs) x) (drop_more xs i y h.0))
 
   -- what is chosen stays
   choose_grows : (xs chosen : List (Place P)) → length chosen ≤ length (choose dist r chosen xs)
@@ -65,7 +49,7 @@ module _ {P : Type 0} (dist : Distance P) (r : ℕ) where
   -- at most k, are the first `count` of `chosen`.
   pub record Trying (k : ℕ) (xs : List (Place P)) (chosen : List ℕ) (count i : ℕ) : Type 0 where
     pub model : choose dist r (gathered (take count chosen) xs) (drop i xs) ≡ choose dist r [] xs
-    pub inside : Every (λ n. n < length xs) (take count chosen)
+    pub inside : All (λ n. n < length xs) (take count chosen)
     pub few : count ≤ k
     pub room : length chosen ≡ 12
 
@@ -80,7 +64,7 @@ module _ {P : Type 0} (dist : Distance P) (r : ℕ) where
       ∙ t.model
 
   pub trying_start : (k : ℕ) (xs : List (Place P)) (chosen : List ℕ) → length chosen ≡ 12 → Trying k xs chosen 0 0
-  trying_start k xs chosen l = record { model = refl; inside = tt; few = omega arith; room = l }
+  trying_start k xs chosen l = record { model = refl; inside = All-from_recursion (λ n. n < length xs) [] tt; few = omega arith; room = l }
 
   -- one of the chosen is near
   pub trying_near : (k : ℕ) (xs : List (Place P)) (chosen : List ℕ) (count i : ℕ) (x : Place P) → Trying k xs chosen count i
@@ -100,7 +84,7 @@ module _ {P : Type 0} (dist : Distance P) (r : ℕ) where
             ap (λ js. choose dist r (gathered js xs) (drop (i + 1) xs)) front
             ∙ ap (λ cs. choose dist r cs (drop (i + 1) xs)) (gathered_push (take count chosen) i xs ∙ ap (λ ys. gathered (take count chosen) xs ++ ys) (cut_one xs i x h is))
             ∙ trying_step k xs chosen count i x false t h is e;
-        inside = subst (Every (λ n. n < length xs)) (sym front) (All-push (λ n. n < length xs) (take count chosen) i t.inside h);
+        inside = subst (All (λ n. n < length xs)) (sym front) (All-push (λ n. n < length xs) (take count chosen) i t.inside h);
         few = omega arith;
         room = length-set chosen count i ∙ room;
       }
@@ -110,7 +94,7 @@ module _ {P : Type 0} (dist : Distance P) (r : ℕ) where
   length_chosen k xs chosen count i t small =
       let room = t.room in
       let few = t.few in
-      length-gathered (take count chosen) xs t.inside ∙ length-take-le count chosen (omega arith)
+      length-gathered (take count chosen) xs (recursion_from_All (λ n. n < length xs) (take count chosen) t.inside) ∙ length-take-le count chosen (omega arith)
 
   -- none is, and k are chosen already: in the end more than k are
   pub trying_full : (k : ℕ) (xs : List (Place P)) (chosen : List ℕ) (count i : ℕ) (x : Place P) → Trying k xs chosen count i

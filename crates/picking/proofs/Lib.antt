@@ -4,4 +4,4 @@ pub mod Spreading
 pub mod Choosing
 pub mod Shelves
 pub mod Takings
-pub mod Uses
+pub mod Latests

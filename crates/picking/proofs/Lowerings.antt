@@ -1,6 +1,6 @@
 -- Loops that write a work list.
 use Rattle.std.proofs.Common.{◌≡◌, ℕ, ◌+◌, ◌<◌, ◌≤◌, min, List, [], ◌∷◌, ◌++◌, map, length, get_or, take, drop, set, sym, refl, ap, ◌∙◌, append_assoc, arith}
-use Rattle.std.proofs.lemmas.List.{drop_all, drop_more, drop-set-lt, map_more, take_all, take-append-drop, take_more, take_more_set}
+use Rattle.std.proofs.lemmas.List.{drop_all, drop_more, drop-set-lt, map_more, take_all, take-append-drop, take_more_set}
 use Rattle.cover.specs.Choices.{nearest}
 use Rattle.picking.specs.Centres.{lowered}
 
@@ -29,27 +29,14 @@ lowered-step f xs ns i x v h l is =
     ∙ ap (lowered f (get_or xs i x ∷ drop (i + 1) xs)) (drop_more ns i 0 (omega arith))
     ∙ ap (λ n. min (get_or ns i 0) n ∷ lowered f (drop (i + 1) xs) (drop (i + 1) ns)) (sym is)
 
--- v is smaller and is written
-pub lowered-set : {X : Type 0} (f : X → ℕ) (xs : List X) (ms ns : List ℕ) (i : ℕ) (x : X) (v : ℕ) → i < length xs → length ns ≡ length xs
-    → v ≡ f (get_or xs i x) → v < get_or ns i 0 → Lowered f xs ms ns i → Lowered f xs ms (set ns i v) (i + 1)
-lowered-set f xs ms ns i x v h l is less e =
-    let least : v ≡ min (get_or ns i 0) v = omega arith in
+-- the smaller of it and v is written
+pub lowered_more : {X : Type 0} (f : X → ℕ) (xs : List X) (ms ns : List ℕ) (i : ℕ) (x : X) (v w : ℕ) → i < length xs → length ns ≡ length xs
+    → v ≡ f (get_or xs i x) → w ≡ min (get_or ns i 0) v → Lowered f xs ms ns i → Lowered f xs ms (set ns i w) (i + 1)
+lowered_more f xs ms ns i x v w h l is least e =
     let rest = lowered f (drop (i + 1) xs) (drop (i + 1) ns) in
-    ap (λ zs. zs ++ lowered f (drop (i + 1) xs) (drop (i + 1) (set ns i v))) (take_more_set ns i v (omega arith))
-    ∙ ap (λ zs. (take i ns ++ (v ∷ [])) ++ lowered f (drop (i + 1) xs) zs) (drop-set-lt (i + 1) ns i v (omega arith))
-    ∙ append_assoc (take i ns) (v ∷ []) rest
-    ∙ ap (λ n. take i ns ++ (n ∷ rest)) least
-    ∙ ap (λ zs. take i ns ++ zs) (sym (lowered-step f xs ns i x v h l is))
-    ∙ e
-
--- it is not
-pub lowered_keep : {X : Type 0} (f : X → ℕ) (xs : List X) (ms ns : List ℕ) (i : ℕ) (x : X) (v : ℕ) → i < length xs → length ns ≡ length xs
-    → v ≡ f (get_or xs i x) → get_or ns i 0 ≤ v → Lowered f xs ms ns i → Lowered f xs ms ns (i + 1)
-lowered_keep f xs ms ns i x v h l is less e =
-    let least : get_or ns i 0 ≡ min (get_or ns i 0) v = omega arith in
-    let rest = lowered f (drop (i + 1) xs) (drop (i + 1) ns) in
-    ap (λ zs. zs ++ rest) (take_more ns i 0 (omega arith))
-    ∙ append_assoc (take i ns) (get_or ns i 0 ∷ []) rest
+    ap (λ zs. zs ++ lowered f (drop (i + 1) xs) (drop (i + 1) (set ns i w))) (take_more_set ns i w (omega arith))
+    ∙ ap (λ zs. (take i ns ++ (w ∷ [])) ++ lowered f (drop (i + 1) xs) zs) (drop-set-lt (i + 1) ns i w (omega arith))
+    ∙ append_assoc (take i ns) (w ∷ []) rest
     ∙ ap (λ n. take i ns ++ (n ∷ rest)) least
     ∙ ap (λ zs. take i ns ++ zs) (sym (lowered-step f xs ns i x v h l is))
     ∙ e

@@ -1,17 +1,17 @@
 -- The rows as seen, one after another.
-use Rattle.std.proofs.Common.{◌≡◌, ℕ, zero, suc, ◌+◌, ◌-◌, ◌*◌, ◌<◌, ◌≤◌, ◌&&◌, leb, List, [], ◌∷◌, length, get_or, take, drop, sym, refl, ap, ◌∙◌, mul-le-mul_right, suc-mul, add_comm, zero-mul, arith, length-drop}
-use Rattle.std.specs.List.{between}
+use Rattle.std.proofs.Common.{◌≡◌, ℕ, zero, suc, ◌+◌, ◌-◌, ◌*◌, ◌<◌, ◌≤◌, ◌&&◌, leb, List, [], ◌∷◌, length, get_or, take, drop, sym, refl, ap, ◌∙◌, mul-le-mul_right, suc-mul, add_comm, zero-mul, arith}
 use Rattle.std.proofs.lemmas.List.{drop-drop, drop-take, length-take-le, take-take}
 use Rattle.packed.specs.Lists.{cut}
 use Rattle.row.specs.Seen.{Within, judged, seen_row, seen_rows}
 use Rattle.row.specs.declared.kept.Row.{Row}
 use Rattle.row.specs.declared.settings.Settings.{Settings}
-use Rattle.rules.specs.Limits.{attractor_room, part_size}
+use Rattle.rules.specs.Limits.{part_size}
 use Rattle.rules.specs.Picking.{choose, passes}
 use Rattle.cover.specs.Distances.{Distance}
 use Rattle.rules.specs.Views as view
 use Rattle.rules.specs.declared.place.Place.{Place}
-use Rattle.picking.specs.Trials.{no_row}
+use Rattle.picking.specs.Trials.{no_row, row_at}
+use Rattle.packed.proofs.Packing.{length_cut}
 
 -- a part of a part
 pub cut-cut : {X : Type 0} (a n b w : ℕ) (xs : List X) → a + n ≤ w → cut a n (cut b w xs) ≡ cut (b + a) n xs
@@ -28,7 +28,7 @@ length_seen s (row ∷ rows) places = ap suc (length_seen s rows (drop (part_siz
 
 -- the row at j, with its part
 pub seen_at : {P : Type 0} (s : Settings) (rows : List Row) (places : List (Place P)) (j : ℕ) (d : view.Row P) → j < length rows
-    → get_or (seen_rows s rows places) j d ≡ seen_row s (get_or rows j no_row) (cut (j * part_size (judged s)) (part_size (judged s)) places)
+    → get_or (seen_rows s rows places) j d ≡ row_at s rows places j
 seen_at s [] places j d h = let z : ⊥ = omega arith in absurd z
 seen_at s (row ∷ rows) places zero d h =
     let w = part_size (judged s) in
@@ -45,38 +45,18 @@ part_room j n w m l h =
     let q : suc j * w ≤ n * w = mul-le-mul_right w l in
     omega (arith, suc-mul j w)
 
--- the representatives of the row at j, as a part of the shelf
-abbrev pub kept : {P : Type 0} → Settings → List Row → List (Place P) → ℕ → List (Place P)
-kept s rows places j =
-    let start = j * part_size (judged s) + attractor_room s.k in
-    between start (start + (get_or rows j no_row).representatives) places
-
--- they lie on the shelf
-pub kept_room : (s : Settings) (rows : List Row) (j m : ℕ) → length rows * part_size (judged s) ≤ m → j < length rows
-    → Within s (get_or rows j no_row) → j * part_size (judged s) + attractor_room s.k + (get_or rows j no_row).representatives ≤ m
-kept_room s rows j m long h fits =
-    let room = part_room j (length rows) (part_size (judged s)) m h long in
-    let few = fits.1 in
-    omega arith
-
 -- whether the row at j passes
 pub passes_at : {P : Type 0} (dist : Distance P) (s : Settings) (rows : List Row) (places : List (Place P)) (j : ℕ) (d : view.Row P)
     → length rows * part_size (judged s) ≤ length places → j < length rows → Within s (get_or rows j no_row)
     → passes dist s.k (get_or (seen_rows s rows places) j d)
-    ≡ leb (get_or rows j no_row).attractors s.k && leb (length (choose dist (2 * (get_or rows j no_row).radius) [] (kept s rows places j))) s.k
+    ≡ leb (get_or rows j no_row).attractors s.k && leb (length (choose dist (2 * (get_or rows j no_row).radius) [] (row_at s rows places j).representatives)) s.k
 passes_at dist s rows places j d long h fits =
     let w = part_size (judged s) in
     let row = get_or rows j no_row in
     let low = fits.0 in
-    let mid = fits.1 in
     let part = cut (j * w) w places in
-    let start = j * w + attractor_room s.k in
     let room = part_room j (length rows) w (length places) h long in
-    let rest : length (drop (j * w) places) ≡ length places - j * w = length-drop (j * w) places in
-    let size : length part ≡ w = length-take-le w (drop (j * w) places) (omega arith) in
+    let size : length part ≡ w = length_cut (j * w) w places room in
     let first : length (cut 0 row.attractors part) ≡ row.attractors = length-take-le row.attractors part (omega arith) in
-    let many : row.representatives ≡ (start + row.representatives) - start = omega arith in
     ap (passes dist s.k) (seen_at s rows places j d h)
-    ∙ ap (λ n. leb n s.k && leb (length (choose dist (2 * row.radius) [] (cut (attractor_room s.k) row.representatives part))) s.k) first
-    ∙ ap (λ ys. leb row.attractors s.k && leb (length (choose dist (2 * row.radius) [] ys)) s.k)
-    (cut-cut (attractor_room s.k) row.representatives (j * w) w places (omega arith) ∙ ap (λ n. take n (drop start places)) many)
+    ∙ ap (λ n. leb n s.k && leb (length (choose dist (2 * row.radius) [] (row_at s rows places j).representatives)) s.k) first

@@ -44,7 +44,7 @@ module _ {P : Type 0} (dist : P → P → ℕ) where
   nearest_small m h (c ∷ []) x = h c x
   nearest_small m h (c ∷ (d ∷ ds)) x = omega (arith, h c x)
 
-  pub reach_small : (m : ℕ) → ((x y : P) → dist x y ≤ m) → (cs xs : List P) → reach dist cs xs ≤ m
+  reach_small : (m : ℕ) → ((x y : P) → dist x y ≤ m) → (cs xs : List P) → reach dist cs xs ≤ m
   reach_small m h cs [] = omega arith
   reach_small m h cs (x ∷ xs) = omega (arith, nearest_small m h cs x, reach_small m h cs xs)
 
@@ -68,14 +68,15 @@ module _ {P : Type 0} (dist : P → P → ℕ) where
       ∙ sym (append_assoc (map number cs) (number x ∷ []) (drop (count + 1) old))
       ∙ ap (λ ns. ns ++ drop (count + 1) old) (sym (map_push number cs x))
 
-  -- The first of the list is the first centre. Within the list a default does not matter.
-  pub going_start : (number : P → ℕ) (k : ℕ) (xs : List P) (old work : List ℕ) (far : ℕ × ℕ) (x y : P)
-      → 1 ≤ k → k ≤ length old → 1 ≤ length xs → work ≡ map (dist (get_or xs 0 x)) xs → Farthest work far
-      → Going dist number k xs (set old 0 (number (get_or xs 0 y))) (set old 0 (number (get_or xs 0 y))) work 1 far
-  going_start number zero xs old work far x y some room full near f = let z : ⊥ = omega arith in absurd z
-  going_start number (suc k) [] old work far x y some room full near f = let z : ⊥ = omega arith in absurd z
-  going_start number (suc k) (z ∷ zs) [] work far x y some room full near f = let z : ⊥ = omega arith in absurd z
-  going_start number (suc k) (z ∷ zs) (o ∷ os) work far x y some room full near f =
+  -- x, the first of the list, is the first centre
+  pub going_start : (number : P → ℕ) (k : ℕ) (xs : List P) (old work : List ℕ) (far : ℕ × ℕ) (x : P)
+      → 1 ≤ k → k ≤ length old → 1 ≤ length xs → x ≡ get_or xs 0 x → work ≡ map (dist x) xs → Farthest work far
+      → Going dist number k xs (set old 0 (number x)) (set old 0 (number x)) work 1 far
+  going_start number zero xs old work far x some room full is near f = let z : ⊥ = omega arith in absurd z
+  going_start number (suc k) [] old work far x some room full is near f = let z : ⊥ = omega arith in absurd z
+  going_start number (suc k) (z ∷ zs) [] work far x some room full is near f = let z : ⊥ = omega arith in absurd z
+  going_start number (suc k) (z ∷ zs) (o ∷ os) work far x some room full is low f =
+      let near : work ≡ map (dist z) (z ∷ zs) = low ∙ ap (λ y. map (dist y) (z ∷ zs)) is in
       let there = found (z ∷ zs) (z ∷ []) work far full near f in
       let less : suc k - 1 ≡ k = omega arith in
       record {
@@ -86,21 +87,20 @@ module _ {P : Type 0} (dist : P → P → ℕ) where
         some = omega arith;
         few = omega arith;
         near = near;
-        written = refl;
+        written = ap (λ y. number y ∷ os) is;
         long = ap length near ∙ length-map (z ∷ zs) (dist z);
         within = there.0;
         place = there.1;
         value = there.2;
       }
 
-  -- the farthest is the next centre
-  pub going_more : (number : P → ℕ) (k : ℕ) (xs : List P) (old answers work work' : List ℕ) (count : ℕ) (far far' : ℕ × ℕ) (x y : P)
+  -- c, the farthest, is the next centre
+  pub going_more : (number : P → ℕ) (k : ℕ) (xs : List P) (old answers work work' : List ℕ) (count : ℕ) (far far' : ℕ × ℕ) (c : P)
       → Going dist number k xs old answers work count far
-      → count < k → 0 < far.1 → k ≤ length old → work' ≡ lowered (dist (get_or xs far.0 x)) xs work → Farthest work' far'
-      → Going dist number k xs old (set answers count (number (get_or xs far.0 y))) work' (count + 1) far'
-  going_more number k xs old answers work work' count far far' x y g more some room low f =
+      → count < k → (far.1 ≡ 0 → ⊥) → k ≤ length old → c ≡ get_or xs far.0 c → work' ≡ lowered (dist c) xs work → Farthest work' far'
+      → Going dist number k xs old (set answers count (number c)) work' (count + 1) far'
+  going_more number k xs old answers work work' count far far' c g more some room is low f =
       let cs = g.centres in
-      let c = get_or xs far.0 x in
       let inside = g.within in
       let counted = g.counted in
       let begun = g.some in
@@ -108,9 +108,9 @@ module _ {P : Type 0} (dist : P → P → ℕ) where
       low ∙ ap (lowered (dist c) xs) g.near ∙ lowered-nearest dist cs c xs (omega arith) in
       let there = found xs (cs ++ (c ∷ [])) work' far' (omega arith) near f in
       let left : k - count ≡ suc (k - (count + 1)) = omega arith in
-      let apart : reach dist cs xs ≡ 0 → ⊥ = λ z. omega (arith, z, g.value) in
+      let apart : reach dist cs xs ≡ 0 → ⊥ = λ z. some (g.value ∙ z) in
       let here : get_or xs (greatest_at (nearest dist cs) xs) g.first ≡ c =
-      ap (λ n. get_or xs n g.first) (sym g.place) ∙ get_or_default xs far.0 g.first x inside in
+      ap (λ n. get_or xs n g.first) (sym g.place) ∙ get_or_default xs far.0 g.first c inside ∙ sym is in
       record {
         first = g.first;
         centres = cs ++ (c ∷ []);
@@ -123,9 +123,7 @@ module _ {P : Type 0} (dist : P → P → ℕ) where
         some = omega arith;
         few = omega arith;
         near = near;
-        written =
-            ap (λ d. set answers count (number d)) (get_or_default xs far.0 y x inside)
-            ∙ written_more number old answers cs count c counted (omega arith) g.written;
+        written = written_more number old answers cs count c counted (omega arith) g.written;
         long = ap length near ∙ length-map xs (nearest dist (cs ++ (c ∷ [])));
         within = there.0;
         place = there.1;
@@ -134,7 +132,7 @@ module _ {P : Type 0} (dist : P → P → ℕ) where
 
   -- there are k centres, or all are at 0 from one
   pub going_ends : (number : P → ℕ) (k : ℕ) (xs : List P) (old answers work : List ℕ) (v count : ℕ) (far : ℕ × ℕ)
-      → Going dist number k xs (set old 0 v) answers work count far → (k ≤ count) ⊎ (far.1 ≤ 0)
+      → Going dist number k xs (set old 0 v) answers work count far → (k ≤ count) ⊎ (far.1 ≡ 0)
       → Chosen dist number k xs old answers count far.1
   going_ends number k xs old answers work v count far g end =
       let cs = g.centres in
@@ -142,7 +140,7 @@ module _ {P : Type 0} (dist : P → P → ℕ) where
       elim end [
         | inl full ↦ let none : k - count ≡ 0 = omega (arith, full) in ap (λ n. onward dist g.first xs n cs) (sym none) ∙ g.model
         | inr low ↦
-            let none : reach dist cs xs ≡ 0 = omega (arith, low, g.value) in
+            let none : reach dist cs xs ≡ 0 = sym g.value ∙ low in
             sym (onward_done g.first xs (k - count) cs none) ∙ g.model
       ] in
       record {
@@ -154,3 +152,11 @@ module _ {P : Type 0} (dist : P → P → ℕ) where
             ∙ ap (λ n. map number cs ++ drop n old) (sym g.counted)
             ∙ ap (λ ys. map number ys ++ drop (length ys) old) all;
       }
+
+  -- nor is how far a choice reaches
+  pub chosen_small : (m : ℕ) → ((x y : P) → dist x y ≤ m) → {number : P → ℕ} {k : ℕ} {xs : List P} {old answers : List ℕ} {count far : ℕ}
+      → Chosen dist number k xs old answers count far → far ≤ m
+  chosen_small m h {k = k} {xs = xs} c =
+      let low = reach_small m h (farthest_first dist k xs) xs in
+      let is = c.reached in
+      omega arith

@@ -11,8 +11,8 @@ use Rattle.rules.specs.Picking.{choose, passes, taken, taken_after}
 use Rattle.cover.specs.Distances.{Distance}
 use Rattle.rules.specs.Views as view
 use Rattle.rules.specs.declared.place.Place.{Place}
-use Rattle.picking.specs.Trials.{first_passing, floor_at, index_from, no_row, taken_at}
-use Rattle.picking.proofs.Shelves.{kept, length_seen, passes_at}
+use Rattle.picking.specs.Trials.{first_passing, floor_at, index_from, no_row, row_at, taken_at}
+use Rattle.picking.proofs.Shelves.{length_seen, passes_at}
 
 -- The search has come to j.
 index_here : {X : Type 0} (test : X → Bool) (xs : List X) (j : ℕ) (d : X) → j < length xs → test (get_or xs j d) ≡ true
@@ -48,14 +48,14 @@ module _ {P : Type 0} (dist : Distance P) (s : Settings) (rows : List Row) (plac
 
   -- the trial chooses too many
   pub passing_spread : (j : ℕ) → j < length rows → Within s (get_or rows j no_row)
-      → leb (length (choose dist (2 * (get_or rows j no_row).radius) [] (kept s rows places j))) s.k ≡ false → Passing j → Passing (j + 1)
+      → leb (length (choose dist (2 * (get_or rows j no_row).radius) [] (row_at s rows places j).representatives)) s.k ≡ false → Passing j → Passing (j + 1)
   passing_spread j h fits more before =
       index_on (passes dist s.k) (seen_rows s rows places) j none (inside j h) (passes_at dist s rows places j none long h fits ∙ and_right _ _ more)
       ∙ before
 
   -- it passes
   pub passing_here : (j : ℕ) → j < length rows → Within s (get_or rows j no_row) → (get_or rows j no_row).attractors ≤ s.k
-      → leb (length (choose dist (2 * (get_or rows j no_row).radius) [] (kept s rows places j))) s.k ≡ true → Passing j
+      → leb (length (choose dist (2 * (get_or rows j no_row).radius) [] (row_at s rows places j).representatives)) s.k ≡ true → Passing j
       → Some j ≡ first_passing dist s.k (seen_rows s rows places)
   passing_here j h fits few all before =
       sym (

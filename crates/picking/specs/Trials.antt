@@ -33,10 +33,15 @@ abbrev pub floor_at : List Row → ℕ → Option ℕ
 floor_at rows zero = None
 floor_at rows (suc j) = Some (slice_index_or rows j no_row).radius
 
+-- the row at index j, as seen with its part of the shelf
+abbrev pub row_at : {P : Type 0} → Settings → List Row → List (Place P) → ℕ → view.Row P
+row_at s rows places j =
+    seen_row s (slice_index_or rows j no_row) (cut (j * part_size (judged s)) (part_size (judged s)) places)
+
 -- what a pick takes, by the index of its radius: the row as seen with its part of the shelf, and the floor
 abbrev pub taken_at : {P : Type 0} → Settings → List Row → List (Place P) → Option ℕ → Option (Taken P)
 taken_at s rows places None = None
 taken_at s rows places (Some j) = Some (record {
-  row = seen_row s (slice_index_or rows j no_row) (cut (j * part_size (judged s)) (part_size (judged s)) places);
+  row = row_at s rows places j;
   floor = floor_at rows j;
 })

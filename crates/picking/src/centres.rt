@@ -16,10 +16,10 @@ pub fn farthest(distances: &[u32]) -> (usize, u32)
 {
     let mut at = 0;
     let mut most = 0;
-    for i in 0..distances.len() {
-        if distances[i] > most {
+    for (i, &distance) in distances.iter().enumerate() {
+        if distance > most {
             at = i;
-            most = distances[i];
+            most = distance;
         }
     }
     (at, most)
@@ -30,8 +30,9 @@ fn measure_from<P, T: Tape<P>>(tape: &T, list: &[Place<P>], centre: &Place<P>, w
     requires { length work.old ≡ length list.now }
     ensures { work.new ≡ map (apart (T.Tape.dist tape.now) centre.now) list.now }
 {
-    for i in 0..list.len() {
-        work[i] = tape.measure(&centre.piece, &list[i].piece);
+    // By the index: of what a loop over `work.iter_mut().zip(list)` has written, a proof knows nothing.
+    for (i, place) in list.iter().enumerate() {
+        work[i] = tape.measure(&centre.piece, &place.piece);
     }
 }
 
@@ -40,39 +41,10 @@ fn lower<P, T: Tape<P>>(tape: &T, list: &[Place<P>], centre: &Place<P>, work: &m
     requires { length work.old ≡ length list.now }
     ensures { work.new ≡ lowered (apart (T.Tape.dist tape.now) centre.now) list.now work.old }
 {
-    for i in 0..list.len() {
-        let distance = tape.measure(&centre.piece, &list[i].piece);
-        if distance < work[i] {
-            work[i] = distance;
-        }
+    // By the index, as in `measure_from`.
+    for (i, place) in list.iter().enumerate() {
+        work[i] = work[i].min(tape.measure(&centre.piece, &place.piece));
     }
-}
-
-/// The choice, with a work list as long as the list: it holds how far each is from its nearest centre so far.
-fn choose_from<P, T: Tape<P>>(
-    tape: &T,
-    list: &[Place<P>],
-    k: usize,
-    answers: &mut [u32],
-    work: &mut [u32],
-) -> (usize, u32)
-    requires some { 1 ≤ k }
-    requires room { k ≤ length answers.old }
-    requires full { 1 ≤ length list.now }
-    requires same { length work.old ≡ length list.now }
-    ensures { Chosen (apart (T.Tape.dist tape.now)) (λ x. x.arrival) k list.now answers.old answers.new result.0 result.1 }
-{
-    measure_from(tape, list, &list[0], work);
-    answers[0] = list[0].arrival;
-    let mut count = 1;
-    let mut far = farthest(work);
-    while count < k && far.1 > 0 {
-        answers[count] = list[far.0].arrival;
-        lower(tape, list, &list[far.0], work);
-        count += 1;
-        far = farthest(work);
-    }
-    (count, far.1)
 }
 
 /// Chooses at most k centres of a list that is not empty, farthest-first: the first of the list, and then, as long
@@ -92,5 +64,21 @@ pub fn choose_centres<P, T: Tape<P>>(
     ensures chosen { Chosen (apart (T.Tape.dist tape.now)) (λ x. x.arrival) k list.now answers.old answers.new result.0 result.1 }
     ensures small { result.1 ≤ limit }
 {
-    choose_from(tape, list, k, answers, &mut work[..list.len()])
+    // How far each of the list is from its nearest centre so far.
+    let near = &mut work[..list.len()];
+    let first = &list[0];
+    answers[0] = first.arrival;
+    measure_from(tape, list, first, near);
+    let (mut at, mut distance) = farthest(near);
+    // Counted, since the count is answered.
+    for count in 1..k {
+        if distance == 0 {
+            return (count, distance);
+        }
+        let centre = &list[at];
+        answers[count] = centre.arrival;
+        lower(tape, list, centre, near);
+        (at, distance) = farthest(near);
+    }
+    (k, distance)
 }

@@ -3,7 +3,10 @@
 #![tactic(auto)]
 
 pub mod centres;
+mod lists;
+pub mod radii;
 pub mod trial;
 
 pub use centres::{choose_centres, farthest};
+pub use radii::{Lists, Radii};
 pub use trial::first_passing;

@@ -1,13 +1,12 @@
 //! The trial over the radii.
 
-ghost use Rattle.std.specs.Prelude.{◌≡◌, ℕ, ◌*◌, ◌<◌, ◌≤◌, length, IfSome, slice_index_or};
+ghost use Rattle.std.specs.Prelude.{◌≡◌, ℕ, ◌<◌, ◌≤◌, length, All, IfSome, nat_le, slice_index_or};
+ghost use Rattle.picking.specs.Seen.{seen};
 ghost use Rattle.picking.specs.Trials.{first_passing, gathered, no_row};
-ghost use Rattle.row.specs.Seen.{Within, judged, seen_rows};
-ghost use Rattle.rules.specs.Limits.{greatest_radius, part_size};
+ghost use Rattle.rules.specs.Limits.{greatest_radius};
 ghost use Rattle.rules.specs.Picking.{any_within};
-ghost use Rattle.std.specs.List.{AllByRecursion as Every};
 
-use row::{Row, Settings};
+use crate::radii::Radii;
 use rules::Place;
 use tape::Tape;
 
@@ -19,46 +18,38 @@ fn any_within<P, T: Tape<P>>(
     radius: u32,
     tape: &T,
 ) -> bool
-    requires { Every (λ i. i < length list.now) chosen.now }
+    requires { All (λ i. i < length list.now) chosen.now }
     ensures { result ≡ any_within (T.Tape.dist tape.now) radius (gathered chosen.now list.now) place.now }
 {
-    for at in chosen {
-        if tape.measure(&list[*at].piece, &place.piece) <= radius {
-            return true;
-        }
-    }
-    false
+    chosen.iter().any(
+        |at|
+            requires { at.now < length list.now }
+            ensures { result ≡ nat_le (T.Tape.dist tape.entry.now (slice_index_or list.entry.now at.now place.entry.now).piece place.entry.now.piece) radius }
+        { tape.measure(&list[*at].piece, &place.piece) <= radius },
+    )
 }
 
 /// The index of the first radius that passes: it has at most k attractors, and of its representatives, gone
 /// through in order, at most k are farther than twice the radius from all that were chosen before them.
-pub fn first_passing<P, T: Tape<P>>(
-    rows: &[Row],
-    places: &[Place<P>],
-    settings: Settings,
-    tape: &T,
-) -> Option<usize>
-    requires within { (j : ℕ) → j < length rows.now → Within settings (slice_index_or rows.now j no_row) }
-    requires radii { (j : ℕ) → j < length rows.now → (slice_index_or rows.now j no_row).radius ≤ greatest_radius }
-    requires long { length rows.now * part_size (judged settings) ≤ length places.now }
-    ensures first { result ≡ first_passing (T.Tape.dist tape.now) settings.k (seen_rows settings rows.now places.now) }
-    ensures inside { IfSome result (λ j. j < length rows.now) }
+pub fn first_passing<P, T: Tape<P>>(radii: &Radii<'_, P>, tape: &T) -> Option<usize>
+    requires { (j : ℕ) → j < length radii.now.rows.now → (slice_index_or radii.now.rows.now j no_row).radius ≤ greatest_radius }
+    ensures first { result ≡ first_passing (T.Tape.dist tape.now) radii.now.settings.k (seen radii.now) }
+    ensures inside { IfSome result (λ j. j < length radii.now.rows.now) }
 {
-    let size = 3 * settings.k + 3 + 2 * settings.limit;
-    'radii: for j in 0..rows.len() {
-        let row = rows[j];
-        if row.attractors > settings.k {
+    let k = radii.settings.k;
+    'radii: for (j, row) in radii.rows.iter().enumerate() {
+        if row.attractors > k {
             continue;
         }
-        let start = j * size + (settings.k + 1);
-        let list = &places[start..start + row.representatives];
+        let list = radii.lists(j).representatives();
+        // No heap: the indices of the chosen, of which `count` are used.
         let mut chosen = [0; 12];
         let mut count = 0;
-        for i in 0..list.len() {
-            if any_within(list, &chosen[..count], &list[i], 2 * row.radius, tape) {
+        for (i, place) in list.iter().enumerate() {
+            if any_within(list, &chosen[..count], place, 2 * row.radius, tape) {
                 continue;
             }
-            if count == settings.k {
+            if count == k {
                 continue 'radii;
             }
             chosen[count] = i;

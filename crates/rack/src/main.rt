@@ -3,24 +3,23 @@
 
 #![tactic(auto)]
 
-ghost use Rattle.std.specs.Prelude.{◌≡◌, ℕ, ◌+◌, ◌<◌, ◌≤◌, length, IfSome, IfOk, slice_index};
+ghost use Rattle.std.specs.Prelude.{◌<◌, length, IfOk, IsTrue};
+
+mod inflow;
 
 use anyhow::anyhow;
-use book::Shelf;
-use command::Command;
+use command::{Command, LONGEST};
+use inflow::Inflow;
 use intake::{Arrived, look};
-use label::{LABEL_ROOM, put_label};
+use label::label_text;
 use rules::Place;
 use session::Session;
-use std::io::{BufWriter, Read, Stdin, Stdout, Write};
+use std::io::{BufWriter, Stdout, Write};
 use std::{env, io};
 use tape::{Panel, Part};
 
 /// How many places each kind of piece has.
 const PLACES: usize = 800;
-
-/// How many bytes are read at once.
-const BUFFER: usize = 65536;
 
 fn main(rt: HostRuntime) -> anyhow::Result<()> {
     run(&rt)
@@ -53,119 +52,79 @@ fn help(rt: &HostRuntime) -> io::Result<()> {
 
 /// Follows the feed to its end. What was answered goes out before more is waited for.
 fn follow(rt: &HostRuntime) -> io::Result<()> {
-    let mut panels = [Place {
-        piece: Panel { offsets: [0; 8] },
-        arrival: 0,
-        day: 0,
-        attractor: 0,
-    }; PLACES];
-    let mut parts = [Place {
-        piece: Part { word: 0 },
-        arrival: 0,
-        day: 0,
-        attractor: 0,
-    }; PLACES];
-    let mut panels = Shelf {
-        places: &mut panels,
+    let mut rack = Rack {
+        session: Session::new(),
+        panels: places_with(Panel { offsets: [0; 8] }),
+        parts: places_with(Part { word: 0 }),
+        out: BufWriter::new(rt.alloc(), rt.stdout())?,
     };
-    let mut parts = Shelf { places: &mut parts };
-    let mut session = Session::new();
-    let mut out = BufWriter::new(rt.alloc(), rt.stdout())?;
-    let mut input = rt.stdin();
-    let mut bytes = [0u8; BUFFER];
-    // The bytes that wait at the front, and the offset of the first of them in the feed.
-    let mut waiting = 0usize;
-    let mut offset = 0usize;
+    let mut inflow = Inflow::new(rt.stdin());
+    // A counted loop: nobody knows where the feed ends.
     for _ in 0..u64::MAX {
-        let end = fetch(&mut input, &mut bytes, waiting)?;
-        let used = take_all(
-            &mut session,
-            &mut panels,
-            &mut parts,
-            &bytes[0..end],
-            offset,
-            end == waiting,
-            &mut out,
-        )?;
-        out.flush()?;
-        let Some(used) = used else {
+        let ended = inflow.fill()? == 0;
+        let goes_on = rack.take_all(&mut inflow, ended)?;
+        rack.out.flush()?;
+        if !goes_on {
             break;
-        };
-        keep(&mut bytes, used, end);
-        waiting = end - used;
-        offset = offset.saturating_add(used);
+        }
     }
     Ok(())
 }
 
-/// Waits for more of the feed, puts it behind the bytes that wait, and answers where it ends.
-fn fetch(input: &mut Stdin, bytes: &mut [u8], waiting: usize) -> io::Result<usize>
-    requires { waiting ≤ length bytes.old }
-    ensures { IfOk result (λ end. (waiting ≤ end) × (end ≤ length bytes.old)) }
-{
-    let got = input.read(&mut bytes[waiting..])?;
-    Ok(waiting + got)
+/// Places with this piece on each of them.
+fn places_with<P: Copy>(piece: P) -> [Place<P>; PLACES] {
+    [Place {
+        piece,
+        arrival: 0,
+        day: 0,
+        attractor: 0,
+    }; PLACES]
 }
 
-/// Moves the bytes from `used` to `end` to the front.
-fn keep(bytes: &mut [u8], used: usize, end: usize)
-    requires { (used ≤ end) × (end ≤ length bytes.old) }
-    ensures { (k : ℕ) → used + k < end → slice_index bytes.new k ≡ slice_index bytes.old (used + k) }
-{
-    for i in used..end {
-        bytes[i - used] = bytes[i];
-    }
+/// A session with the places of its shelves, and where its answers go.
+#[derive(Drop)]
+struct Rack {
+    session: Session,
+    panels: [Place<Panel>; PLACES],
+    parts: [Place<Part>; PLACES],
+    out: BufWriter<Stdout>,
 }
 
-/// Takes every command that has arrived, and answers how many bytes those were, or nothing where the feed is at its
-/// end. What is left is less than the longest command.
-fn take_all(
-    session: &mut Session,
-    panels: &mut Shelf<'_, Panel>,
-    parts: &mut Shelf<'_, Part>,
-    bytes: &[u8],
-    offset: usize,
-    ended: bool,
-    out: &mut BufWriter<Stdout>,
-) -> io::Result<Option<usize>>
-    ensures { IfOk result (λ o. IfSome o (λ used. (used ≤ length bytes.now) × (length bytes.now < used + 37))) }
-{
-    let mut used = 0usize;
-    while used <= bytes.len() {
-        let here = offset.saturating_add(used);
-        match look(&bytes[used..], here, ended) {
-            Arrived::Command(command, size) => {
-                take(session, panels, parts, command, here, out)?;
-                used += size;
-            }
-            Arrived::Part => return Ok(Some(used)),
-            Arrived::End => break,
-            Arrived::Fault(fault) => {
-                writeln!(out, "{fault}")?;
-                break;
+impl Rack {
+    /// Takes every command that has arrived, and answers whether the feed goes on. What then waits is less than the
+    /// longest command.
+    fn take_all(&mut self, inflow: &mut Inflow, ended: bool) -> io::Result<bool>
+        ensures { IfOk result (λ on. IsTrue on → length inflow.new.bytes < LONGEST) }
+    {
+        loop {
+            match look(inflow.waiting(), inflow.offset(), ended) {
+                Ok(Arrived::Command(command, size)) => {
+                    self.take(command, inflow.offset())?;
+                    inflow.consume(size);
+                }
+                Ok(Arrived::Part) => return Ok(true),
+                Ok(Arrived::End) => return Ok(false),
+                Err(fault) => {
+                    writeln!(self.out, "{fault}")?;
+                    return Ok(false);
+                }
             }
         }
     }
-    Ok(None)
-}
 
-/// Takes one command, and prints its label or its refusal.
-fn take(
-    session: &mut Session,
-    panels: &mut Shelf<'_, Panel>,
-    parts: &mut Shelf<'_, Part>,
-    command: Command,
-    offset: usize,
-    out: &mut BufWriter<Stdout>,
-) -> io::Result<()> {
-    match session.handle(command, offset, panels, parts) {
-        Ok(None) => Ok(()),
-        Ok(Some(label)) => {
-            let mut line = [0; LABEL_ROOM];
-            let len = put_label(&label, &mut line);
-            line[len] = b'\n';
-            out.write_all(&line[0..len + 1])
+    /// Takes one command, and prints its label or its refusal.
+    fn take(&mut self, command: Command, offset: usize) -> io::Result<()> {
+        match self
+            .session
+            .handle(command, offset, &mut self.panels, &mut self.parts)
+        {
+            Ok(None) => Ok(()),
+            Ok(Some(label)) => {
+                let mut line = label_text(&label);
+                line.put(b"\n");
+                self.out.write_all(line.as_slice())
+            }
+            Err(fault) => writeln!(self.out, "{fault}"),
         }
-        Err(fault) => writeln!(out, "{fault}"),
     }
 }

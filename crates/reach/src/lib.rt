@@ -27,6 +27,7 @@ pub fn reach<P, T: Tape<P>, W: Term>(
     ensures least { (m : ℕ) → Covers (T.Tape.dist tape.now board.now) (W.Term.counts term.now) clock m posted.now → result ≤ m }
 {
     let mut most = 0;
+    // A loop: over filter, map and max the proof did not close.
     for x in posted {
         if term.still(x.stamp, clock) {
             most = tape.measure(board, &x.piece).max(most);

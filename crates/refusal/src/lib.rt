@@ -12,7 +12,7 @@ use std::fmt;
 
 pub mod range;
 
-pub use range::one_to_million;
+pub use range::UpToMillion;
 
 /// Where a table breaks a law: at entry (`row`, `column`), and, where the entry exceeds the way round
 /// through a third grade, that grade.
@@ -81,9 +81,10 @@ impl Refusal {
     pub fn layer(self) -> Layer
         ensures { result ≡ (code self).layer }
     {
-        match self.number() {
-            11..=13 => Layer::Pieces,
-            15..=16 => Layer::Bytes,
+        match self {
+            Refusal::PieceOutOfRange | Refusal::TableLength | Refusal::LawBroken(_) =>
+                Layer::Pieces,
+            Refusal::UnknownByte | Refusal::CutShort => Layer::Bytes,
             _ => Layer::Book,
         }
     }

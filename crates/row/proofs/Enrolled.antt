@@ -1,5 +1,5 @@
 -- The order in which the code enrols a piece leads where the rules' order leads.
-use Rattle.std.proofs.Common.{◌≡◌, ℕ, suc, ◌+◌, ◌<◌, ◌≤◌, Bool, true, false, cond, eqb, leb, List, [], ◌∷◌, ◌++◌, length, filter, sym, refl, ap, ◌∙◌, append-nil, arith, length-append}
+use Rattle.std.proofs.Common.{◌≡◌, ℕ, suc, ◌+◌, ◌<◌, ◌≤◌, Bool, true, false, cond, eqb, leb, List, [], ◌∷◌, ◌++◌, length, filter, sym, refl, ap, ◌∙◌, arith, length-append}
 use Rattle.std.proofs.lemmas.List.Elements.{filter-append}
 use Rattle.std.proofs.lemmas.Bool.{eq-eqb, eqb-false, eqb-true, ne_eqb}
 use Rattle.rules.specs.Steps.{clean_up, enrol, oldest, standing_for, trim}
@@ -103,14 +103,3 @@ enrol_stands {P} k n room x z r0 r3 r4 e b new len store fits =
     let long : length (clean_up k (enrol k x r0)).representatives ≡ length r3.representatives + 1 =
     ap (λ r. length r.representatives) (sym all) ∙ length-append r3.representatives (standing_for x.arrival x ∷ []) in
     store (omega arith) ∙ ap (λ y. with_representatives (r3.representatives ++ (y ∷ [])) r3) new ∙ all
-
--- where it does not
-pub enrol_falls : {P : Type 0} (k : ℕ) (x : Place P) (r0 r3 : Row P)
-    → r3 ≡ enlisted k x r0
-    → false ≡ stands_with k x.arrival r3.attractors
-    → r3 ≡ clean_up k (enrol k x r0)
-enrol_falls k x r0 r3 e b =
-    ap (λ xs. with_representatives xs r3) (sym (append-nil r3.representatives))
-    ∙ ap (λ c. seated c x r3) b
-    ∙ ap (λ r. seated (stands_with k x.arrival r.attractors) x r) e
-    ∙ enrolled k x r0

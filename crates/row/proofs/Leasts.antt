@@ -20,7 +20,7 @@ pub least_at : {X : Type 0} (n : X → ℕ) (d x : X) (xs : List X) (i : ℕ) �
     → ((k : ℕ) → k < i → n (get_or (x ∷ xs) i d) < n (get_or (x ∷ xs) k d))
     → least n x xs ≡ (get_or (x ∷ xs) i d, remove (x ∷ xs) i)
 least_at n d x [] zero h low first = refl
-least_at n d x [] (suc i) h low first = let z : ⊥ = omega arith in absurd z
+least_at n d x [] (suc i) h low first = absurd (omega arith)
 least_at {X} n d x (y ∷ ys) zero h low first =
     let under : n x ≤ n (least n y ys).0 = least_above n (n x) d y ys (λ k l. low (suc k) (omega arith)) in
     ap (λ b. cond {A = X × List X} b (x, y ∷ ys) ((least n y ys).0, x ∷ (least n y ys).1)) (le-leb (n x) (n (least n y ys).0) under)

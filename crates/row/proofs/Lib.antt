@@ -5,4 +5,3 @@ pub mod Enrolled
 pub mod Leasts
 pub mod Fines
 pub mod Rooms
-pub mod Steps

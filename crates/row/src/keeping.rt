@@ -1,67 +1,46 @@
-//! Of each list of a row, what passes a test is kept.
+//! Of each list of a radius, what passes a test is kept.
 
-ghost use Rattle.std.specs.Prelude.{◌≡◌, length, filter};
-ghost use Rattle.rules.specs.Limits.{part_size};
+ghost use Rattle.std.specs.Prelude.{◌≡◌, filter};
 ghost use Rattle.row.specs.Edits.{with_attractors, with_fine, with_representatives};
-ghost use Rattle.row.specs.Seen.{Within, judged, seen_row};
+ghost use Rattle.row.specs.Radii.{Same, seen};
 
-use crate::kept::Row;
-use crate::settings::Settings;
-use packed::{Test, all_in, keep, marks_in, pack};
+use crate::radius::Radius;
+use packed::{Test, all_of, keep, marks, pack};
 use rules::Place;
 
-/// Keeps the attractors that pass.
-pub fn keep_attractors<P: Copy, Q: Test<P>>(
-    row: &mut Row,
-    part: &mut [Place<P>],
-    settings: Settings,
-    test: &Q,
-)
-    requires lengths { Within settings row.old }
-    requires part_len { length part.old ≡ part_size (judged settings) }
-    ensures seen { seen_row settings row.new part.new ≡ with_attractors (filter (Q.Test.passes test.now) (seen_row settings row.old part.old).attractors) (seen_row settings row.old part.old) }
-    ensures within { Within settings row.new }
-    ensures radius { row.new.radius ≡ row.old.radius }
-{
-    row.attractors = keep(part, 0, row.attractors, test);
-}
-
-/// Keeps the representatives that pass.
-pub fn keep_representatives<P: Copy, Q: Test<P>>(
-    row: &mut Row,
-    part: &mut [Place<P>],
-    settings: Settings,
-    test: &Q,
-)
-    requires lengths { Within settings row.old }
-    requires part_len { length part.old ≡ part_size (judged settings) }
-    ensures seen { seen_row settings row.new part.new ≡ with_representatives (filter (Q.Test.passes test.now) (seen_row settings row.old part.old).representatives) (seen_row settings row.old part.old) }
-    ensures within { Within settings row.new }
-    ensures radius { row.new.radius ≡ row.old.radius }
-{
-    row.representatives = keep(part, settings.k + 1, row.representatives, test);
-}
-
-/// Keeps the fine entries whose latest piece passes.
-pub fn keep_entries<P: Copy, Q: Test<P>>(
-    row: &mut Row,
-    part: &mut [Place<P>],
-    settings: Settings,
-    test: &Q,
-)
-    requires lengths { Within settings row.old }
-    requires part_len { length part.old ≡ part_size (judged settings) }
-    ensures seen { seen_row settings row.new part.new ≡ with_fine (filter (λ e. Q.Test.passes test.now e.latest) (seen_row settings row.old part.old).fine) row.old.lost (seen_row settings row.old part.old) }
-    ensures within { Within settings row.new }
-    ensures radius { row.new.radius ≡ row.old.radius }
-{
-    let firsts = 3 * settings.k + 3;
-    let latests = firsts + settings.limit;
-    // Nearly always all of them do.
-    if all_in(part, latests, row.entries, test) {
-        return;
+impl<P: Copy> Radius<'_, P> {
+    /// Keeps the attractors that pass.
+    pub(crate) fn keep_attractors<Q: Test<P>>(&mut self, test: &Q)
+        ensures same { Same self.old self.new }
+        ensures seen { seen self.new ≡ with_attractors (filter (Q.Test.passes test.now) (seen self.old).attractors) (seen self.old) }
+    {
+        self.row.attractors = keep(&mut self.part[..self.row.attractors], test);
     }
-    let stay = marks_in(part, latests, row.entries, test);
-    let _left = pack(part, firsts, row.entries, &stay);
-    row.entries = pack(part, latests, row.entries, &stay);
+
+    /// Keeps the representatives that pass.
+    pub(crate) fn keep_representatives<Q: Test<P>>(&mut self, test: &Q)
+        ensures same { Same self.old self.new }
+        ensures seen { seen self.new ≡ with_representatives (filter (Q.Test.passes test.now) (seen self.old).representatives) (seen self.old) }
+    {
+        let start = self.settings.representatives_at();
+        let end = start + self.row.representatives;
+        self.row.representatives = keep(&mut self.part[start..end], test);
+    }
+
+    /// Keeps the fine entries whose latest piece passes.
+    pub(crate) fn keep_entries<Q: Test<P>>(&mut self, test: &Q)
+        ensures same { Same self.old self.new }
+        ensures seen { seen self.new ≡ with_fine (filter (λ e. Q.Test.passes test.now e.latest) (seen self.old).fine) self.old.row.now.lost (seen self.old) }
+    {
+        // Nearly always all of them do.
+        if all_of(self.latests(), test) {
+            return;
+        }
+        let stay = marks(self.latests(), test);
+        let firsts = self.settings.firsts_at();
+        let latests = self.settings.latests_at();
+        let count = self.row.entries;
+        pack(&mut self.part[firsts..firsts + count], &stay);
+        self.row.entries = pack(&mut self.part[latests..latests + count], &stay);
+    }
 }

@@ -7,9 +7,13 @@ mod coarse;
 mod fine;
 mod keeping;
 pub mod kept;
+mod layout;
+mod lists;
+pub mod radius;
 pub mod settings;
 mod step;
 
 pub use change::{Change, Expiring, Posting};
 pub use kept::Row;
+pub use radius::Radius;
 pub use settings::Settings;

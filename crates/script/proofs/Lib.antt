@@ -1,3 +1,4 @@
 pub mod Words
-pub mod Counting
+pub mod Begins
+pub mod Narrowing
 pub mod Offsets

@@ -1,7 +1,7 @@
 -- The commands that lines write.
-use Rattle.std.specs.Prelude.{ℕ, zero, suc, cond, List, [], ◌∷◌, ◌++◌, length, take, ℤ, Some, None, Ok, Err, codes, Option, Result, ◌==◌, nat_lt}
+use Rattle.std.specs.Prelude.{ℕ, zero, suc, cond, List, [], ◌∷◌, ◌++◌, length, ℤ, Some, None, Ok, Err, codes, Option, Result, ◌==◌, nat_lt}
+use Rattle.std.specs.List.{before_first}
 use Rattle.std.specs.Option.{ok_or}
-use Rattle.std.specs.List.{prefix_len}
 use Rattle.fault.specs.Faults.{and_then}
 use Rattle.command.specs.declared.Command.{Command}
 use Rattle.command.specs.declared.Command.TheVariants as Made
@@ -9,9 +9,8 @@ use Rattle.command.specs.declared.verb.Verb.{Verb}
 use Rattle.command.specs.declared.verb.Verb.TheVariants.{Settings, Radius, Open, Hull, Joinery, Day, Pick}
 use Rattle.script.specs.declared.mistake.Mistake.{Mistake}
 use Rattle.script.specs.declared.mistake.Mistake.TheVariants.{NoSuchCommand, Misspelt, NotANumber, TooMuch}
-use Rattle.script.specs.declared.scan.Run.TheVariants.{Code}
 use Rattle.script.specs.Numerals.{numeral_of, whole_of, hexadecimal_of}
-use Rattle.script.specs.Scan.{within, start_at, end_at, word_at, skip_at}
+use Rattle.script.specs.Scan.{start_at, end_at, word_at, skip_at}
 
 -- the next word read as an operand, and where it ends
 abbrev pub operand_at : {X : Type 0} → (List ℕ → Option X) → List ℕ → ℕ → Result (X × ℕ) Mistake
@@ -66,7 +65,7 @@ abbrev pub settings_at : List ℕ → ℕ → Result (Command × ℕ) Mistake
 settings_at xs at =
     and_then (kind_at xs at) (λ kind. and_then (named_at (codes "k") 255 xs kind.1) (λ k.
     and_then (named_at (codes "f") 255 xs k.1) (λ f. and_then (named_at (codes "F") 255 xs f.1) (λ limit.
-    and_then (term_at xs limit.1) (λ term. Ok (Made.Settings kind.0 k.0 f.0 limit.0 term.0 term.1, term.2))))))
+    and_then (term_at xs limit.1) (λ term. Ok (Made.Settings (record { kind = kind.0; k = k.0; f = f.0; limit = limit.0; term = term.0; n = term.1 }), term.2))))))
 
 -- the verb that the next word names
 abbrev pub verb_at : List ℕ → ℕ → Result (Verb × ℕ) Mistake
@@ -90,6 +89,10 @@ command_at xs at Joinery = and_then (number_at 4294967295 xs at) (λ p. and_then
 command_at xs at Day = and_then (number_at 4294967295 xs at) (λ p. Ok (Made.Day p.0, p.1))
 command_at xs at Pick = Ok (Made.Pick, at)
 
+-- the command that the next words write
+abbrev pub written_at : List ℕ → ℕ → Result (Command × ℕ) Mistake
+written_at xs at = and_then (verb_at xs at) (λ v. command_at xs v.1 v.0)
+
 -- a line without its comment: nothing, or a command and nothing more
 abbrev pub ended : List ℕ → Command × ℕ → Result (Option Command) Mistake
 ended xs p = cond (nat_lt (start_at xs p.1) (length xs)) (Err TooMuch) (Ok (Some p.0))
@@ -99,6 +102,6 @@ code_of xs =
     cond (start_at xs 0 == length xs) (Ok None)
     (and_then (verb_at xs 0) (λ v. and_then (command_at xs v.1 v.0) (ended xs)))
 
--- the command that a line writes
+-- the command that a line writes: what stands before a comment
 abbrev pub line_of : List ℕ → Result (Option Command) Mistake
-line_of xs = code_of (take (prefix_len (within Code) xs) xs)
+line_of xs = code_of (before_first (λ b. b == 35) xs)

@@ -1,26 +1,18 @@
 -- Lines, and the words of a line.
-use Rattle.std.specs.Prelude.{ℕ, ◌+◌, ◌-◌, Bool, cond, not, ◌||◌, List, take, drop, Some, None, Option, ◌==◌}
-use Rattle.std.specs.List.{prefix_len}
+use Rattle.std.specs.Prelude.{ℕ, ◌+◌, ◌-◌, Bool, cond, ◌||◌, List, take, drop, Some, None, Option, ◌==◌}
+use Rattle.std.specs.List.{prefix_len, position_or_len}
 use Rattle.std.specs.Str.{bytes_eq}
-use Rattle.script.specs.declared.scan.Run.{Run}
-use Rattle.script.specs.declared.scan.Run.TheVariants.{Blank, Word, Line, Code}
 
 -- space, tab, carriage return
 abbrev pub blank : ℕ → Bool
 blank b = b == 32 || b == 9 || b == 13
 
-abbrev pub within : Run → ℕ → Bool
-within Blank b = blank b
-within Word b = not (blank b)
-within Line b = not (b == 10)
-within Code b = not (b == 35)
-
 -- the next word at an offset: where it begins, where it ends, and the word
 unfoldable pub start_at : List ℕ → ℕ → ℕ
-start_at xs at = at + prefix_len (within Blank) (drop at xs)
+start_at xs at = at + prefix_len blank (drop at xs)
 
 unfoldable pub end_at : List ℕ → ℕ → ℕ
-end_at xs at = start_at xs at + prefix_len (within Word) (drop (start_at xs at) xs)
+end_at xs at = start_at xs at + position_or_len blank (drop (start_at xs at) xs)
 
 abbrev pub word_at : List ℕ → ℕ → List ℕ
 word_at xs at = take (end_at xs at - start_at xs at) (drop (start_at xs at) xs)

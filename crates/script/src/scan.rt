@@ -1,90 +1,88 @@
 //! Lines, and the words of a line.
 
-ghost use Rattle.std.specs.Prelude.{◌≡◌, ◌+◌, ◌≤◌, length, drop, IfSome};
-ghost use Rattle.std.specs.List.{prefix_len};
-ghost use Rattle.script.specs.Scan.{within, start_at, end_at, skip_at};
+ghost use Rattle.std.specs.Prelude.{◌≡◌, ℕ, ◌+◌, ◌≤◌, ◌==◌, Bool, length, drop};
+ghost use Rattle.std.specs.List.{before_first, position_or_len};
+ghost use Rattle.script.specs.Scan.{blank, start_at, end_at, word_at};
 
-/// The kinds of bytes that a text is cut by.
-#[derive(Clone, Copy)]
-pub(crate) enum Run {
-    /// spaces, tabs and carriage returns
-    Blank,
-    /// what is not blank
-    Word,
-    /// all before a line's end
-    Line,
-    /// all before a comment
-    Code,
+/// Spaces, tabs and carriage returns stand between words.
+fn blank(byte: u8) -> bool
+    ensures { result ≡ blank byte }
+{
+    matches!(byte, b' ' | b'\t' | b'\r')
 }
 
-impl Run {
-    pub(crate) fn has(self, byte: u8) -> bool
-        ensures { result ≡ within self byte }
-    {
-        match self {
-            Run::Blank => byte == b' ' || byte == b'\t' || byte == b'\r',
-            Run::Word => byte != b' ' && byte != b'\t' && byte != b'\r',
-            Run::Line => byte != b'\n',
-            Run::Code => byte != b'#',
-        }
-    }
-}
-
-/// Where the run of such bytes that begins at `at` ends.
-pub(crate) fn run_end(text: &[u8], at: usize, run: Run) -> usize
-    requires { at ≤ length text.now }
-    ensures is { result ≡ at + prefix_len (within run) (drop at text.now) }
+/// Where the first byte stands that `stops` holds of. If it holds of none, that is the text's end.
+fn find<F: Fn(u8) -> bool>(text: &[u8], stops: F) -> usize
+    requires { F.IsAlwaysCallable stops }
+    ensures is { (p : ℕ → Bool) → ((b : ℕ) (r : Bool) → F.post stops b r → r ≡ p b) → result ≡ position_or_len p text.now }
     ensures inside { result ≤ length text.now }
 {
-    for i in at..text.len() {
-        if !run.has(text[i]) {
-            return i;
-        }
-    }
-    text.len()
+    text.iter()
+        .position(|byte| stops(*byte))
+        .unwrap_or(text.len())
 }
 
 /// Where the line that begins at `at` ends: at the next line feed, or with the text.
+// With an offset and not a slice: it is public, and its promise speaks of one.
 pub fn line_end(text: &[u8], at: usize) -> usize
-    ensures is { result ≡ at + prefix_len (within Run.Line) (drop at text.now) }
+    ensures is { result ≡ at + position_or_len (λ b. b == 10) (drop at text.now) }
     ensures inside { (at ≤ result) × (at ≤ length text.now → result ≤ length text.now) }
 {
     if at > text.len() {
         return at;
     }
-    run_end(text, at, Run::Line)
+    at + find(&text[at..], |byte| byte == b'\n')
 }
 
-/// Where the next word begins. Past the last word it is the text's end.
-pub(crate) fn word_start(text: &[u8], at: usize) -> usize
-    requires { at ≤ length text.now }
-    ensures is { result ≡ start_at text.now at }
-    ensures inside { result ≤ length text.now }
+/// The line without its comment.
+pub(crate) fn code(line: &[u8]) -> &[u8]
+    ensures { result.now ≡ before_first (λ b. b == 35) line.now }
 {
-    run_end(text, at, Run::Blank)
+    &line[..find(line, |byte| byte == b'#')]
 }
 
-/// Where the next word begins and ends. Past the last word both are the text's end.
-pub(crate) fn word(text: &[u8], at: usize) -> (usize, usize)
-    requires { at ≤ length text.now }
-    ensures is { result ≡ (start_at text.now at, end_at text.now at) }
-    ensures inside { (result.0 ≤ result.1) × (result.1 ≤ length text.now) }
-{
-    let start = word_start(text, at);
-    let end = run_end(text, start, Run::Word);
-    (start, end)
+/// A text of words, read up to `at`.
+#[derive(Drop)]
+pub(crate) struct Words<'a> {
+    text: &'a [u8],
+    at: usize,
+    ghost inside: { at ≤ length text.now },
 }
 
-/// Where the next word ends, if it is `name`.
-pub(crate) fn skip(text: &[u8], at: usize, name: &[u8]) -> Option<usize>
-    requires { at ≤ length text.now }
-    ensures is { result ≡ skip_at name.now text.now at }
-    ensures inside { IfSome result (λ end. end ≤ length text.now) }
-{
-    let (start, end) = word(text, at);
-    if &text[start..end] == name {
-        Some(end)
-    } else {
-        None
+impl<'a> Words<'a> {
+    /// The words of a text, of which none is read yet.
+    pub(crate) fn new(text: &'a [u8]) -> Words<'a>
+        ensures text { result.text.now ≡ text.now }
+        ensures at { result.at ≡ 0 }
+    {
+        Words { text, at: 0 }
+    }
+
+    /// Where the next word begins. Past the last word it is the text's end.
+    fn start(&self) -> usize
+        ensures is { result ≡ start_at self.now.text.now self.now.at }
+        ensures inside { result ≤ length self.now.text.now }
+    {
+        self.at + find(&self.text[self.at..], |byte| !blank(byte))
+    }
+
+    /// No word is left.
+    pub(crate) fn is_done(&self) -> bool
+        ensures { result ≡ (start_at self.now.text.now self.now.at == length self.now.text.now) }
+    {
+        self.start() == self.text.len()
+    }
+
+    /// The next word, which is empty past the last.
+    #[tactic(auto, unfolding(crate::specs::Scan::end_at))]
+    pub(crate) fn word(&mut self) -> &'a [u8]
+        ensures word { result.now ≡ word_at self.old.text.now self.old.at }
+        ensures at { self.new.at ≡ end_at self.old.text.now self.old.at }
+        ensures text { self.new.text.now ≡ self.old.text.now }
+    {
+        let text = self.text;
+        let start = self.start();
+        self.at = start + find(&text[start..], blank);
+        &text[start..self.at]
     }
 }

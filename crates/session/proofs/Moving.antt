@@ -1,5 +1,5 @@
 -- From what a desk promises to what the session promises.
-use Rattle.std.proofs.Common.{◌≡◌, ℕ, List, length, Some, None, Ok, Option, Result, sym, refl, ap, ◌∙◌, subst}
+use Rattle.std.proofs.Common.{◌≡◌, ℕ, List, length, Option, Result, sym, refl, ap, ◌∙◌, subst}
 use Rattle.cover.specs.Distances.{Distance}
 use Rattle.desk.specs.Accounts.{Kept, Led, heard}
 use Rattle.desk.specs.Asks.{answer_to, stage_after}
@@ -8,7 +8,6 @@ use Rattle.desk.specs.declared.ask.Ask.{Ask}
 use Rattle.desk.specs.declared.desk.Desk.{Desk}
 use Rattle.label.specs.declared.Label.{Label}
 use Rattle.order.specs.declared.Order.{Order}
-use Rattle.order.specs.declared.Order.TheVariants as order
 use Rattle.refusal.specs.declared.Refusal.{Refusal}
 use Rattle.rules.specs.Promises.{Fits, Story}
 use Rattle.rules.specs.Runs.{Stage}
@@ -19,24 +18,13 @@ use Rattle.term.specs.Formulas.{Rule}
 use Rattle.term.specs.Spans.{spanned}
 use Rattle.term.specs.declared.span.Span.{Span}
 use Rattle.term.specs.declared.span.Span.TheVariants as span
-use Rattle.session.specs.Halls.{Hall, Idle, OfPanels, OfParts, begun_answer, begun_hall, hall_for, hull_dist, joinery_dist, panel_ask, part_ask, rule_of, settings_for, window_for}
+use Rattle.session.specs.Halls.{OfPanels, OfParts, hull_dist, joinery_dist, panel_ask, part_ask, rule_of}
 use Rattle.session.specs.Seen.{Moved, OrderKept, window_of}
 
 -- the meaning of a term chosen at run time is that of its window
 rule_of_lem : (s : Span) → spanned s ≡ rule_of (window_of s)
 rule_of_lem (span.Pieces t) = refl
 rule_of_lem (span.Days t) = refl
-
--- accepted settings begin a session
-pub started : (kind k f fine_limit term len m n : ℕ) (h : Hall)
-    → hall_for kind (settings_for k f fine_limit) (window_for term len) ≡ Some h
-    → Moved (order.Settings kind k f fine_limit term len) (Ok None) m n Idle h
-started kind k f fine_limit term len m n h e = record {
-  answer = ap begun_answer (sym e);
-  left = λ fits. ap begun_hall (sym e);
-  run = λ acc led. ap begun_hall (sym e);
-  holds = λ acc led. subst (λ a. OrderKept a (order.Settings kind k f fine_limit term len) (Ok None)) (sym led) tt;
-}
 
 -- what a desk promises of a command, under a rule
 record Stepped {P : Type 0} (dist : Distance P) (m : ℕ) (a : Ask P) (r : Result (Option Label) Refusal) (s s2 : Stage P)

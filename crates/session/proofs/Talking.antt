@@ -3,17 +3,18 @@ use Rattle.std.proofs.Common.{◌≡◌, ℕ, Bool, true, false, cond, eqb, List
 use Rattle.std.proofs.lemmas.Bool.Decides.{nat_tests}
 use Rattle.command.specs.declared.Command.{Command}
 use Rattle.command.specs.declared.Command.TheVariants as command
+use Rattle.command.specs.declared.RawSettings.{RawSettings}
 use Rattle.desk.proofs.Leading.{begin_led, led_on}
 use Rattle.desk.specs.Accounts.{Led, begun_with, heard}
 use Rattle.desk.specs.Asks.{answer_to}
-use Rattle.fault.specs.Faults.{and_then, located_at, refused_at}
+use Rattle.fault.specs.Faults.{and_then, located_at}
 use Rattle.fault.specs.declared.Fault.{Fault}
 use Rattle.label.specs.declared.Label.{Label}
 use Rattle.order.specs.Orders.{in_range, order_of}
 use Rattle.order.specs.declared.Order.{Order}
 use Rattle.order.specs.declared.Order.TheVariants as order
 use Rattle.refusal.specs.declared.Refusal.{Refusal}
-use Rattle.refusal.specs.declared.Refusal.TheVariants.{PieceOutOfRange, ShelfTooShort}
+use Rattle.refusal.specs.declared.Refusal.TheVariants.{PieceOutOfRange}
 use Rattle.rules.specs.Limits.{Judged}
 use Rattle.rules.specs.Promises.{Story}
 use Rattle.rules.specs.Calls.{beginning}
@@ -36,11 +37,11 @@ hull_order at d p b = and_then (located_at at (cond b (Ok p) (Err PieceOutOfRang
 
 hull_made : (at d : ℕ) (p : Panel) (b : Bool) (o : Order) → hull_order at d p b ≡ Ok o → order.Hull d p ≡ o
 hull_made at d p true o e = ok_same (order.Hull d p) o e
-hull_made at d p false o e = let z : ◌≡◌ {A = ℕ} 0 1 = cc in absurd (omega arith)
+hull_made at d p false o e = cc
 
 -- what a command's order says to a book is what the command says
 panels_said : (at : ℕ) (c : Command) (o : Order) → order_of at c ≡ Ok o → to_panels c ≡ panel_ask o
-panels_said at (command.Settings kind k f fine_limit term n) o e = ap panel_ask (ok_same (order.Settings kind k f fine_limit term n) o e)
+panels_said at (command.Settings s) o e = ap panel_ask (ok_same (order.Settings s) o e)
 panels_said at (command.Radius g) o e = ap panel_ask (ok_same (order.Radius g) o e)
 panels_said at command.Open o e = ap panel_ask (ok_same order.Open o e)
 panels_said at (command.Hull d offsets) o e =
@@ -50,7 +51,7 @@ panels_said at (command.Day d) o e = ap panel_ask (ok_same (order.Day d) o e)
 panels_said at command.Pick o e = ap panel_ask (ok_same order.Pick o e)
 
 parts_said : (at : ℕ) (c : Command) (o : Order) → order_of at c ≡ Ok o → to_parts c ≡ part_ask o
-parts_said at (command.Settings kind k f fine_limit term n) o e = ap part_ask (ok_same (order.Settings kind k f fine_limit term n) o e)
+parts_said at (command.Settings s) o e = ap part_ask (ok_same (order.Settings s) o e)
 parts_said at (command.Radius g) o e = ap part_ask (ok_same (order.Radius g) o e)
 parts_said at command.Open o e = ap part_ask (ok_same order.Open o e)
 parts_said at (command.Hull d offsets) o e =
@@ -58,26 +59,6 @@ parts_said at (command.Hull d offsets) o e =
 parts_said at (command.Joinery d word) o e = ap part_ask (ok_same (order.Joinery d (record { word = word })) o e)
 parts_said at (command.Day d) o e = ap part_ask (ok_same (order.Day d) o e)
 parts_said at command.Pick o e = ap part_ask (ok_same order.Pick o e)
-
--- only a piece out of range keeps a command from being an order
-hull-refused : (at d : ℕ) (p : Panel) (b : Bool) (f : Fault) → hull_order at d p b ≡ Err f → f.refusal ≡ PieceOutOfRange
-hull-refused at d p true f e = let z : ◌≡◌ {A = ℕ} 0 1 = cc in absurd (omega arith)
-hull-refused at d p false f e =
-    let same : refused_at PieceOutOfRange at ≡ f = cc in
-    ap (λ x. x.refusal) (sym same)
-
-pub order_refused : (at : ℕ) (c : Command) (f : Fault) → order_of at c ≡ Err f
-    → (f.refusal ≡ PieceOutOfRange) × (c ≡ command.Pick → ⊥)
-order_refused at (command.Settings kind k f2 fine_limit term n) f e = let z : ◌≡◌ {A = ℕ} 0 1 = cc in absurd (omega arith)
-order_refused at (command.Radius g) f e = let z : ◌≡◌ {A = ℕ} 0 1 = cc in absurd (omega arith)
-order_refused at command.Open f e = let z : ◌≡◌ {A = ℕ} 0 1 = cc in absurd (omega arith)
-order_refused at (command.Hull d offsets) f e = (
-  hull-refused at d (record { offsets = offsets }) (in_range 8 offsets) f e,
-  λ q. let z : ◌≡◌ {A = ℕ} 0 1 = cc in omega arith,
-)
-order_refused at (command.Joinery d word) f e = let z : ◌≡◌ {A = ℕ} 0 1 = cc in absurd (omega arith)
-order_refused at (command.Day d) f e = let z : ◌≡◌ {A = ℕ} 0 1 = cc in absurd (omega arith)
-order_refused at command.Pick f e = let z : ◌≡◌ {A = ℕ} 0 1 = cc in absurd (omega arith)
 
 pub unlocated_located : {X : Type 0} (at : ℕ) (r : Result X Refusal) → unlocated (located_at at r) ≡ r
 unlocated_located at (Ok x) = refl
@@ -92,11 +73,10 @@ abbrev begun_if : Result (Option Label) Refusal → Account → Account
 begun_if (Ok l) acc = acc
 begun_if (Err e) acc = talk.Nothing
 
-begun_if_lem : (r : Result (Option Label) Refusal) (kind k f fine_limit term n : ℕ)
-    → begun_by r (command.Settings kind k f fine_limit term n)
-    ≡ begun_if r (account_for kind (settings_for k f fine_limit) (window_for term n))
-begun_if_lem (Ok l) kind k f fine_limit term n = refl
-begun_if_lem (Err e) kind k f fine_limit term n = refl
+begun_if_lem : (r : Result (Option Label) Refusal) (s : RawSettings)
+    → begun_by r (command.Settings s) ≡ begun_if r (account_for s.kind (settings_for s.k s.f s.limit) (window_for s.term s.n))
+begun_if_lem (Ok l) s = refl
+begun_if_lem (Err e) s = refl
 
 kind_led : (hull joinery : Bool) (s : view.Settings) (w : Window) → Judged s
     → HallLed (begun_hall (cond hull (Some (OfPanels w (event.SettingUp (beginning s)))) (cond joinery (Some (OfParts w (event.SettingUp (beginning s)))) None)))
@@ -124,12 +104,11 @@ module _ (m n at : ℕ) where
   hull_idle d offsets false = refl
 
   idle_on : (c : Command) → Goes Idle talk.Nothing c (order_of at c)
-  idle_on (command.Settings kind k f fine_limit term len) =
-      let h = hall_for kind (settings_for k f fine_limit) (window_for term len) in
+  idle_on (command.Settings s) =
+      let h = hall_for s.kind (settings_for s.k s.f s.limit) (window_for s.term s.n) in
       subst (HallLed (begun_hall h))
-      (sym (ap (λ r. begun_by r (command.Settings kind k f fine_limit term len)) (unlocated_located at (begun_answer h))
-      ∙ begun_if_lem (begun_answer h) kind k f fine_limit term len))
-      (begun_led kind (settings_for k f fine_limit) (window_for term len) (settings-judged k f fine_limit))
+      (sym (ap (λ r. begun_by r (command.Settings s)) (unlocated_located at (begun_answer h)) ∙ begun_if_lem (begun_answer h) s))
+      (begun_led s.kind (settings_for s.k s.f s.limit) (window_for s.term s.n) (settings-judged s.k s.f s.limit))
   idle_on (command.Radius g) = refl
   idle_on command.Open = refl
   idle_on (command.Hull d offsets) = hull_idle d offsets (in_range 8 offsets)
@@ -183,18 +162,3 @@ order_promised at c o (talk.OfParts w t) r e kept = record {
   pick = λ q. kept.pick (sym (parts_said at c o e) ∙ ap to_parts q);
   room = kept.room;
 }
-
-out_of_range : (f : Fault) → f.refusal ≡ PieceOutOfRange
-    → ◌≡◌ {A = Result (Option Label) Refusal} (Err f.refusal) (Err ShelfTooShort) → ⊥
-out_of_range f e q = let z : ◌≡◌ {A = ℕ} 0 1 = cc in omega arith
-
--- a command whose piece is out of range promises nothing but that
-pub piece_promised : (at : ℕ) (c : Command) (f : Fault) (acc : Account) → order_of at c ≡ Err f
-    → Promised acc c (Err f.refusal)
-piece_promised at c f talk.Nothing e = tt
-piece_promised at c f (talk.OfPanels w t) e =
-    let why = order_refused at c f e in
-    record { pick = λ q. absurd (why.1 q); room = λ enough q. out_of_range f why.0 q }
-piece_promised at c f (talk.OfParts w t) e =
-    let why = order_refused at c f e in
-    record { pick = λ q. absurd (why.1 q); room = λ enough q. out_of_range f why.0 q }

@@ -67,7 +67,7 @@ hall_for kind (Some s) (Some w) =
 
 -- an order as it reaches a book of panels, and one of parts
 abbrev pub panel_ask : Order → Ask Panel
-panel_ask (Settings kind k f fine_limit term n) = ask.Stray
+panel_ask (Settings s) = ask.Stray
 panel_ask (Radius g) = ask.Radius g
 panel_ask Open = ask.Open
 panel_ask (Hull d p) = ask.Post p d
@@ -76,13 +76,23 @@ panel_ask (Day d) = ask.Turn d
 panel_ask Pick = ask.Pick
 
 abbrev pub part_ask : Order → Ask Part
-part_ask (Settings kind k f fine_limit term n) = ask.Stray
+part_ask (Settings s) = ask.Stray
 part_ask (Radius g) = ask.Radius g
 part_ask Open = ask.Open
 part_ask (Hull d p) = ask.Stray
 part_ask (Joinery d p) = ask.Post p d
 part_ask (Day d) = ask.Turn d
 part_ask Pick = ask.Pick
+
+-- an order that brings no piece of its kind, as it reaches a book
+abbrev pub ask_of : {P : Type 0} → Order → Ask P
+ask_of (Settings s) = ask.Stray
+ask_of (Radius g) = ask.Radius g
+ask_of Open = ask.Open
+ask_of (Hull d p) = ask.Stray
+ask_of (Joinery d p) = ask.Stray
+ask_of (Day d) = ask.Turn d
+ask_of Pick = ask.Pick
 
 -- settings are accepted, or out of range
 abbrev pub begun_answer : Option Hall → Result (Option Label) Refusal
@@ -95,7 +105,7 @@ begun_hall None = Idle
 
 -- Before settings are accepted all else is out of place.
 abbrev pub idle_answer : Order → Result (Option Label) Refusal
-idle_answer (Settings kind k f fine_limit term n) = begun_answer (hall_for kind (settings_for k f fine_limit) (window_for term n))
+idle_answer (Settings s) = begun_answer (hall_for s.kind (settings_for s.k s.f s.limit) (window_for s.term s.n))
 idle_answer (Radius g) = Err OutOfPlace
 idle_answer Open = Err OutOfPlace
 idle_answer (Hull d p) = Err OutOfPlace
@@ -104,7 +114,7 @@ idle_answer (Day d) = Err OutOfPlace
 idle_answer Pick = Err OutOfPlace
 
 abbrev pub idle_after : Order → Hall
-idle_after (Settings kind k f fine_limit term n) = begun_hall (hall_for kind (settings_for k f fine_limit) (window_for term n))
+idle_after (Settings s) = begun_hall (hall_for s.kind (settings_for s.k s.f s.limit) (window_for s.term s.n))
 idle_after (Radius g) = Idle
 idle_after Open = Idle
 idle_after (Hull d p) = Idle

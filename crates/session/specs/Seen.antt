@@ -1,8 +1,7 @@
 -- A session and its shelves as the definitions see them, and what taking an order promises of them.
-use Rattle.std.specs.Prelude.{◌≡◌, ℕ, false, List, is_ok, Some, None, Option, Result}
+use Rattle.std.specs.Prelude.{◌≡◌, ℕ, false, List, is_ok, Option, Result}
 use Rattle.desk.specs.Accounts.{Kept, Led}
 use Rattle.desk.specs.Seen.{Spared, stage_of}
-use Rattle.desk.specs.declared.desk.Desk.{Desk}
 use Rattle.label.specs.declared.Label.{Label}
 use Rattle.order.specs.declared.Order.{Order}
 use Rattle.refusal.specs.declared.Refusal.{Refusal}
@@ -15,22 +14,22 @@ use Rattle.term.specs.declared.span.Span.TheVariants as span
 use Rattle.session.specs.Halls.{Hall, Idle, OfPanels, OfParts, Pieces, Days, Window, answer_of, hall_after, hull_dist, joinery_dist, panel_ask, part_ask, rule_of}
 use Rattle.session.specs.Talks.{Account}
 use Rattle.session.specs.Talks as talk
-use Rattle.session.specs.declared.session.Kind.{Kind}
-use Rattle.session.specs.declared.session.Kind.TheVariants as kind
+use Rattle.session.specs.declared.session.Hall as held
+use Rattle.session.specs.declared.session.Hall.TheVariants as hall
 use Rattle.session.specs.declared.session.Session.{Session}
 
 abbrev pub window_of : Span → Window
-window_of (span.Pieces t) = Pieces t.n
-window_of (span.Days t) = Days t.n
+window_of (span.Pieces t) = Pieces t.n.number
+window_of (span.Days t) = Days t.n.number
 
--- the desk of the chosen kind tells where the session stands
-abbrev pub hall_by : Option Kind → Desk Panel → Desk Part → List (Place Panel) → List (Place Part) → Hall
-hall_by None a b panels parts = Idle
-hall_by (Some kind.Hull) a b panels parts = OfPanels (window_of a.span) (stage_of a panels)
-hall_by (Some kind.Joinery) a b panels parts = OfParts (window_of b.span) (stage_of b parts)
+-- its desk tells where a session stands
+abbrev pub hall_by : held.Hall → List (Place Panel) → List (Place Part) → Hall
+hall_by hall.Idle panels parts = Idle
+hall_by (hall.OfPanels d) panels parts = OfPanels (window_of d.span) (stage_of d panels)
+hall_by (hall.OfParts d) panels parts = OfParts (window_of d.span) (stage_of d parts)
 
 abbrev pub hall_of : Session → List (Place Panel) → List (Place Part) → Hall
-hall_of s panels parts = hall_by s.kind s.panels s.parts panels parts
+hall_of s panels parts = hall_by s.hall panels parts
 
 -- what lies on the shelf fits the parts of its lists
 abbrev pub HallFits : Hall → Type 0
@@ -39,15 +38,13 @@ HallFits (OfPanels w s) = Fits s
 HallFits (OfParts w s) = Fits s
 
 -- The places that no book uses are as they were, and so is the whole shelf of a kind that was not chosen.
-abbrev pub UntouchedBy : Option Kind → Desk Panel → Desk Part → List (Place Panel) → List (Place Part) → List (Place Panel) → List (Place Part) → Type 0
-UntouchedBy None a b panels parts panels2 parts2 = (panels2 ≡ panels) × (parts2 ≡ parts)
-UntouchedBy (Some kind.Hull) a b panels parts panels2 parts2 =
-    Spared a.phase a.book panels panels2 × (parts2 ≡ parts)
-UntouchedBy (Some kind.Joinery) a b panels parts panels2 parts2 =
-    (panels2 ≡ panels) × Spared b.phase b.book parts parts2
+abbrev pub UntouchedBy : held.Hall → List (Place Panel) → List (Place Part) → List (Place Panel) → List (Place Part) → Type 0
+UntouchedBy hall.Idle panels parts panels2 parts2 = (panels2 ≡ panels) × (parts2 ≡ parts)
+UntouchedBy (hall.OfPanels d) panels parts panels2 parts2 = Spared d.stage panels panels2 × (parts2 ≡ parts)
+UntouchedBy (hall.OfParts d) panels parts panels2 parts2 = (panels2 ≡ panels) × Spared d.stage parts parts2
 
 abbrev pub Untouched : Session → List (Place Panel) → List (Place Part) → List (Place Panel) → List (Place Part) → Type 0
-Untouched s panels parts panels2 parts2 = UntouchedBy s.kind s.panels s.parts panels parts panels2 parts2
+Untouched s panels parts panels2 parts2 = UntouchedBy s.hall panels parts panels2 parts2
 
 -- A run of the session's book has led here, and comes to this account.
 abbrev pub HallLed : Hall → Account → Type 0

@@ -31,7 +31,7 @@ account_for kind (Some s) (Some w) =
 
 -- what a command says to a book of panels, and to one of parts
 abbrev pub to_panels : Command → Ask Panel
-to_panels (Settings kind k f fine_limit term n) = ask.Stray
+to_panels (Settings s) = ask.Stray
 to_panels (Radius g) = ask.Radius g
 to_panels Open = ask.Open
 to_panels (Hull d offsets) = ask.Post (record { offsets = offsets }) d
@@ -40,7 +40,7 @@ to_panels (Day d) = ask.Turn d
 to_panels Pick = ask.Pick
 
 abbrev pub to_parts : Command → Ask Part
-to_parts (Settings kind k f fine_limit term n) = ask.Stray
+to_parts (Settings s) = ask.Stray
 to_parts (Radius g) = ask.Radius g
 to_parts Open = ask.Open
 to_parts (Hull d offsets) = ask.Stray
@@ -55,7 +55,7 @@ unlocated (Err f) = Err f.refusal
 
 abbrev pub begun_by : Result (Option Label) Refusal → Command → Account
 begun_by (Err e) c = Nothing
-begun_by (Ok l) (Settings kind k f fine_limit term n) = account_for kind (settings_for k f fine_limit) (window_for term n)
+begun_by (Ok l) (Settings s) = account_for s.kind (settings_for s.k s.f s.limit) (window_for s.term s.n)
 begun_by (Ok l) (Radius g) = Nothing
 begun_by (Ok l) Open = Nothing
 begun_by (Ok l) (Hull d offsets) = Nothing

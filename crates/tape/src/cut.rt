@@ -1,38 +1,35 @@
 //! A tape that stops at a limit.
 
-ghost use Rattle.std.specs.Prelude.{◌≡◌, ◌<◌, ◌≤◌};
+ghost use Rattle.std.specs.Prelude.{◌≡◌};
 ghost use Rattle.refusal.specs.Makes.{MadeIf, OneToMillion};
 ghost use Rattle.refusal.specs.declared.Refusal.TheVariants.{SettingOutOfRange};
 ghost use Rattle.tape.specs.Combined.{cut_off};
 ghost use Rattle.tape.specs.Laid.{Laid};
-ghost use Rattle.tape.specs.Limits.{limit};
 ghost use Rattle.std.proofs.Common.{rules};
 
 use crate::distance::Tape;
-use refusal::{Refusal, one_to_million};
+use refusal::{Refusal, UpToMillion};
 
-/// A tape over the tape `inner` that gives no distance above `cap`, which is 1 to 1,000,000.
+/// A tape over the tape `inner` that gives no distance above `cap`.
 #[derive(Drop)]
 pub struct Cut<T> {
     inner: T,
-    cap: u32,
-    ghost positive: { 0 < cap },
-    ghost bounded: { cap ≤ limit },
+    cap: UpToMillion,
 }
 
 impl<T: Drop> Cut<T> {
     /// `inner` cut off at `cap`, unless `cap` is outside 1 to 1,000,000.
     pub fn new(inner: T, cap: u32) -> Result<Cut<T>, Refusal>
-        ensures { MadeIf (OneToMillion cap) (λ t. (t.inner ≡ inner) × (t.cap ≡ cap)) SettingOutOfRange result }
+        ensures { MadeIf (OneToMillion cap) (λ t. (t.inner ≡ inner) × (t.cap.number ≡ cap)) SettingOutOfRange result }
     {
-        let cap = one_to_million(cap)?;
+        let cap = UpToMillion::new(cap)?;
         Ok(Cut { inner, cap })
     }
 }
 
 /// The smaller of the inner distance and the cap.
 impl<P, T: Tape<P>> Tape<P> for Cut<T> {
-    ghost dist = { λ t a b. cut_off t.cap (T.Tape.dist t.inner a b) };
+    ghost dist = { λ t a b. cut_off t.cap.number (T.Tape.dist t.inner a b) };
 
     ghost range = { Prim.search rules };
 
@@ -43,7 +40,7 @@ impl<P, T: Tape<P>> Tape<P> for Cut<T> {
     ghost triangle = { Prim.search rules };
 
     fn measure(&self, a: &P, b: &P) -> u32 {
-        self.inner.measure(a, b).min(self.cap)
+        self.inner.measure(a, b).min(self.cap.number)
     }
 }
 

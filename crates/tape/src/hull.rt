@@ -16,7 +16,7 @@ pub const GREATEST_OFFSET: u32 = 500_000;
 
 /// A hull panel: its offset at each of eight stations, in tenths of a millimetre. A panel with fewer
 /// stations has 0 at the others. Plain numbers; `Panel::new` checks them.
-#[derive(Clone, Copy)]
+#[derive(Clone, Copy, PartialEq, Eq, Debug)]
 pub struct Panel {
     pub offsets: [i32; 8],
 }
@@ -26,10 +26,8 @@ impl Panel {
     pub fn new(offsets: [i32; 8]) -> Result<Panel, Refusal>
         ensures { MadeIf (InRange offsets) (λ p. p.offsets ≡ offsets) PieceOutOfRange result }
     {
-        for offset in offsets {
-            if offset.unsigned_abs() > GREATEST_OFFSET {
-                return Err(Refusal::PieceOutOfRange);
-            }
+        if offsets.iter().any(|x| x.unsigned_abs() > GREATEST_OFFSET) {
+            return Err(Refusal::PieceOutOfRange);
         }
         Ok(Panel { offsets })
     }
@@ -55,8 +53,9 @@ impl Tape<Panel> for HullTape {
         ensures exact { InRange a.now.offsets → InRange b.now.offsets → result ≡ widest 8 a.now.offsets b.now.offsets }
     {
         let mut most = 0;
-        for station in 0..8 {
-            most = a.offsets[station].abs_diff(b.offsets[station]).max(most);
+        // A loop: over zip, map and max the proof did not close.
+        for (x, y) in a.offsets.iter().zip(&b.offsets) {
+            most = x.abs_diff(*y).max(most);
         }
         most.min(1_000_000)
     }

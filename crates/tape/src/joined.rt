@@ -6,7 +6,7 @@ ghost use Rattle.std.proofs.Common.{rules};
 use crate::distance::Tape;
 
 /// A joined piece: two pieces, each of any kind.
-#[derive(Clone, Copy)]
+#[derive(Clone, Copy, PartialEq, Eq, Debug)]
 pub struct Joined<A, B> {
     pub left: A,
     pub right: B,

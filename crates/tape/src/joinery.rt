@@ -8,7 +8,7 @@ ghost use Rattle.tape.specs.Hamming.{hamming_zero, hamming_turn, hamming_through
 use crate::distance::Tape;
 
 /// A joinery part: a word with one bit for each fitting. Every word is a part.
-#[derive(Clone, Copy)]
+#[derive(Clone, Copy, PartialEq, Eq, Debug)]
 pub struct Part {
     pub word: u64,
 }

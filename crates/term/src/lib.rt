@@ -10,7 +10,7 @@ pub mod pair;
 pub mod span;
 pub mod window;
 
-pub use last::{ByDays, ByNumber};
+pub use last::{ByDays, ByNumber, Days, Last, Posts, Unit};
 pub use pair::{Both, Either};
 pub use span::Span;
 pub use window::{Clock, Stamp, Term};

@@ -6,6 +6,8 @@ ghost use Rattle.std.proofs.Common.{rules};
 
 use crate::window::{Clock, Stamp, Term};
 
+// Two types: they differ in an operation, && or ||, which a third type and a trait with laws would have to name.
+
 /// A piece counts while it counts by both terms.
 #[derive(Drop)]
 pub struct Both<S, T> {

@@ -1,137 +1,114 @@
--- Parts of a list that are the bytes of a number.
-use Rattle.std.proofs.Common.{◌≡◌, ℕ, suc, ◌+◌, ◌*◌, ◌/◌, ◌%◌, ◌^◌, ◌<◌, ◌≤◌, true, cond, List, [], ◌∷◌, ◌++◌, length, get_or, take, drop, set, ℤ, pos, sym, refl, ap, ◌∙◌, arith, w8, w32, Fits, to_z, of_z}
+-- Lists that are filled with the bytes of a command, and parts of a list that are the bytes of a number.
+use Rattle.std.proofs.Common.{lit<, ⊎_elim, subst, ◌≡◌, ℕ, suc, ◌+◌, ◌-◌, ◌*◌, ◌^◌, ◌<◌, ◌≤◌, List, [], ◌∷◌, ◌++◌, length, get_or, take, drop, set, ℤ, pos, sym, refl, ap, ◌∙◌, arith, w8, w32, w64, Fits, to_z, of_z, length-drop, length-set}
+use borrow.Rule.Slice.PartMut.{put_mid}
+use Rattle.std.specs.Int.{from_be_bytes}
+use Rattle.std.specs.List.{flat_map}
+use Rattle.std.specs.Simd.{first_chunks}
 use Rattle.std.proofs.lemmas.Int.{of_z-to_z}
-use Rattle.command.proofs.Words.{word4}
-use Rattle.std.proofs.lemmas.Bool.Decides.{nat_tests}
+use Rattle.std.proofs.lemmas.Nat.{be_bytes_4, be_bytes_8}
+use Rattle.command.proofs.Words.{be32_bytes, be64_bytes}
+use Rattle.std.proofs.lemmas.Bool.{cases_lt}
+use Rattle.std.proofs.lemmas.Slice.{take-put_mid}
+use Rattle.std.proofs.lemmas.List.{append-nil, drop_all, take_more_set, take_all, take-append-drop, drop_more, get_or-take, get_or-drop, get_or_past, length-take, length-take-le}
 use Rattle.command.specs.declared.Command.{Command}
+use Rattle.command.specs.declared.Command.TheVariants.{Settings, Radius, Open, Hull, Joinery, Day, Pick}
 use Rattle.command.specs.declared.verb.Verb.{Verb}
-use Rattle.command.specs.Verbs.{letter, width}
+use Rattle.command.specs.Verbs.{letter}
 use Rattle.command.specs.Commands.{bytes_of, operands_of, size_of, verb_of}
-use Rattle.wire.specs.Wire.{room_for, with_front}
-use Rattle.std.proofs.lemmas.List.{flat_map_more, take_more, take_more_set, take_all, take-take, take-append-drop, drop_more, drop-take, drop-drop}
 use Rattle.command.specs.Bytes.{be32, be64, be32z, be32zs}
 
--- the eight bytes of a number, each by its weight
-abbrev pub digits64 : ℕ → List ℕ
-digits64 n = n / 72057594037927936 % 256 ∷ n / 281474976710656 % 256 ∷ n / 1099511627776 % 256 ∷ n / 4294967296 % 256 ∷ n / 16777216 % 256 ∷ n / 65536 % 256 ∷ n / 256 % 256 ∷ n % 256 ∷ []
+-- what a part that reaches to the end leaves
+to_end : (xs ys : List ℕ) (a : ℕ) → put_mid a (length xs - a) xs ys ≡ take a xs ++ ys
+to_end xs ys a =
+    ap (λ zs. take a xs ++ (ys ++ zs)) (drop_all (length xs - a) (drop a xs) (omega (arith, length-drop a xs)))
+    ∙ ap (λ zs. take a xs ++ zs) (append-nil ys)
 
-pub be64_digits : (n : ℕ) → digits64 n ≡ be64 n
-unfolding be32
-be64_digits n =
-    let a : n / 4294967296 / 16777216 % 256 ≡ n / 72057594037927936 % 256 = omega arith in
-    let b : n / 4294967296 / 65536 % 256 ≡ n / 281474976710656 % 256 = omega arith in
-    let c : n / 4294967296 / 256 % 256 ≡ n / 1099511627776 % 256 = omega arith in
-    let e : n % 4294967296 / 16777216 % 256 ≡ n / 16777216 % 256 = omega arith in
-    let f : n % 4294967296 / 65536 % 256 ≡ n / 65536 % 256 = omega arith in
-    let g : n % 4294967296 / 256 % 256 ≡ n / 256 % 256 = omega arith in
-    let h : n % 4294967296 % 256 ≡ n % 256 = omega arith in
-    cc
+-- a list that is filled with one byte
+pub filled_none : (out : List ℕ) (b : ℕ) → length out ≡ 1 → set out 0 b ≡ b ∷ []
+filled_none out b l = sym (take_all 1 (set out 0 b) (omega (arith, length-set out 0 b))) ∙ take_more_set out 0 b (omega arith)
 
--- one more of the numbers zs is written after bs
-pub written_more : (bs xs : List ℕ) (zs : List ℤ) (i : ℕ) → i < length zs
-    → xs ≡ (bs ++ be32zs (take i zs)) ++ be32z (get_or zs i (pos 0)) → xs ≡ bs ++ be32zs (take (i + 1) zs)
-written_more bs xs zs i h e =
-    e ∙ flat_map_more be32z bs (take i zs) (get_or zs i (pos 0)) ∙ ap (λ ys. bs ++ be32zs ys) (sym (take_more zs i (pos 0) h))
+-- with one byte and then one part
+pub filled_one : (out : List ℕ) (b : ℕ) (ys : List ℕ) → 0 < length out → put_mid 1 (length (set out 0 b) - 1) (set out 0 b) ys ≡ b ∷ ys
+filled_one out b ys l = to_end (set out 0 b) ys 1 ∙ ap (λ zs. zs ++ ys) (take_more_set out 0 b l)
 
-pub written_all : (bs : List ℕ) (zs : List ℤ) (i : ℕ) → length zs ≤ i → bs ++ be32zs (take i zs) ≡ bs ++ be32zs zs
-written_all bs zs i h = ap (λ ys. bs ++ be32zs ys) (take_all i zs h)
+-- and with one more part
+pub filled_two : (out : List ℕ) (b n m : ℕ) (xs ys : List ℕ) → 0 < length out → length xs ≡ n → m ≡ 1 + n
+    → put_mid m (length (put_mid 1 n (set out 0 b) xs) - m) (put_mid 1 n (set out 0 b) xs) ys ≡ b ∷ (xs ++ ys)
+filled_two out b n m xs ys l e f =
+    to_end (put_mid 1 n (set out 0 b) xs) ys m
+    ∙ ap (λ zs. zs ++ ys) (take-put_mid 1 n (set out 0 b) xs m (omega arith) (omega (arith, length-set out 0 b))
+    ∙ ap (λ zs. zs ++ xs) (take_more_set out 0 b l))
 
--- what `write` leaves where there is room
-pub room : (c : Command) (xs : List ℕ) → size_of c ≤ length xs → room_for c xs ≡ true
-room c xs h = grind (arith, nat_tests)
+-- each command has a byte
+pub some_bytes : (c : Command) → 0 < size_of c
+some_bytes (Settings s) = omega arith
+some_bytes (Radius radius) = omega arith
+some_bytes Open = omega arith
+some_bytes (Hull day offsets) = omega arith
+some_bytes (Joinery day word) = omega arith
+some_bytes (Day day) = omega arith
+some_bytes Pick = omega arith
 
-pub fronted : (c : Command) (was is : List ℕ) → size_of c ≤ length was
-    → take (size_of c) is ≡ bytes_of c → drop (size_of c) is ≡ drop (size_of c) was
-    → is ≡ cond (room_for c was) (with_front c was) was
-fronted c was is h front back =
-    sym (take-append-drop (size_of c) is) ∙ ap (λ xs. xs ++ drop (size_of c) is) front ∙ ap (λ xs. bytes_of c ++ xs) back
-    ∙ ap (λ b. cond b (with_front c was) was) (sym (room c was h))
+-- a byte and a part that are a command's
+pub bytes_are : (c : Command) (v : Verb) (b : ℕ) (ys : List ℕ) → v ≡ verb_of c → b ≡ letter v → ys ≡ operands_of c → b ∷ ys ≡ bytes_of c
+bytes_are c v b ys e f g = ap (λ x. x ∷ ys) (f ∙ ap letter e) ∙ ap (λ zs. letter (verb_of c) ∷ zs) g
 
--- one byte of a part, and the part after it
-pub one_more : (xs : List ℕ) (at next n : ℕ) → next ≡ at + 1 → at < length xs
-    → take (suc n) (drop at xs) ≡ get_or xs at 0 ∷ take n (drop next xs)
-one_more xs at next n e h = ap (take (suc n)) (drop_more xs at 0 h) ∙ ap (λ m. get_or xs at 0 ∷ take n (drop m xs)) (sym e)
+-- the bytes of each number of a list are those of the list
+pub flattened : (zs : List ℤ) (bs : List (List ℕ)) → length bs ≡ length zs
+    → ((i : ℕ) → i < length zs → get_or bs i [] ≡ be32z (get_or zs i (pos 0))) → flat_map (λ x. x) bs ≡ be32zs zs
+flattened [] [] l h = refl
+flattened [] (b ∷ bs) l h = let no : ⊥ = omega arith in absurd no
+flattened (z ∷ zs) [] l h = let no : ⊥ = omega arith in absurd no
+flattened (z ∷ zs) (b ∷ bs) l h =
+    let here : b ≡ be32z z = h 0 (omega arith) in
+    let rest = flattened zs bs (omega arith) (λ i k. h (suc i) (omega arith)) in
+    ap (λ x. x ++ flat_map (λ y. y) bs) here ∙ ap (λ x. be32z z ++ x) rest
 
--- two parts, one after the other
-pub two_parts : (xs : List ℕ) (at m n next all : ℕ) → next ≡ at + m → all ≡ m + n
-    → take all (drop at xs) ≡ take m (drop at xs) ++ take n (drop next xs)
-two_parts xs at m n next all e f =
-    ap (λ k. take k (drop at xs)) f ∙ sym (take-append-drop m (take (m + n) (drop at xs)))
-    ∙ ap (λ ys. ys ++ drop m (take (m + n) (drop at xs))) (take-take m (m + n) (drop at xs) (omega arith))
-    ∙ ap (λ ys. take m (drop at xs) ++ ys) (drop-take m n (drop at xs) ∙ ap (take n) (drop-drop m at xs ∙ ap (λ k. drop k xs) (sym e)))
+-- each item of a list is a byte
+abbrev pub Bytes : List ℕ → Type 0
+Bytes xs = (i : ℕ) → Fits w8 (get_or xs i 0)
 
--- the four bytes at an offset are those of the number that they give
-pub number_stands : (xs : List ℕ) (at n : ℕ) → at + 4 ≤ length xs → ((i : ℕ) → Fits w8 (get_or xs i 0))
-    → n ≡ get_or xs at 0 * 16777216 + get_or xs (at + 1) 0 * 65536 + get_or xs (at + 2) 0 * 256 + get_or xs (at + 3) 0
-    → take 4 (drop at xs) ≡ be32 n
-number_stands xs at n h f e =
-    let a = get_or xs at 0 in
-    let b = get_or xs (at + 1) 0 in
-    let c = get_or xs (at + 2) 0 in
-    let d = get_or xs (at + 3) 0 in
-    one_more xs at (at + 1) 3 refl (omega arith)
-    ∙ ap (λ ys. a ∷ ys) (one_more xs (at + 1) (at + 2) 2 (omega arith) (omega arith)
-    ∙ ap (λ ys. b ∷ ys) (one_more xs (at + 2) (at + 3) 1 (omega arith) (omega arith)
-    ∙ ap (λ ys. c ∷ ys) (one_more xs (at + 3) (at + 4) 0 (omega arith) (omega arith))))
-    ∙ sym (word4 a b c d (f at).fits (f (at + 1)).fits (f (at + 2)).fits (f (at + 3)).fits)
-    ∙ ap be32 (sym e)
+-- and each of a part
+part_fits : (xs : List ℕ) → Bytes xs → (at n i : ℕ) → get_or (take n (drop at xs)) i 0 < 256
+part_fits xs f at n i =
+    ⊎_elim (λ (l : i < n). rw (get_or-take n (drop at xs) i 0 l, get_or-drop at xs i 0) (f (at + i)).fits)
+    (λ (l : n ≤ i). rw (get_or_past (take n (drop at xs)) i 0 (omega (arith, length-take n (drop at xs)))) (lit< tt)) (cases_lt i n)
 
--- the bytes of two halves are those of the whole
-pub halves : (high low : ℕ) → low < 2 ^ 32 → be32 high ++ be32 low ≡ be64 (high * 4294967296 + low)
-halves high low h =
-    let q : (high * 4294967296 + low) / 4294967296 ≡ high = omega arith in
-    let r : (high * 4294967296 + low) % 4294967296 ≡ low = omega arith in
-    ap (λ n. be32 n ++ be32 low) (sym q) ∙ ap (λ n. be32 ((high * 4294967296 + low) / 4294967296) ++ be32 n) (sym r)
+part_long : (xs : List ℕ) (at n : ℕ) → at + n ≤ length xs → length (take n (drop at xs)) ≡ n
+part_long xs at n h = length-take-le n (drop at xs) (omega (arith, length-drop at xs))
 
--- one more of the numbers is read
-pub read_more : (xs : List ℕ) (at i : ℕ) (zs : List ℤ) (z : ℤ) → i < length zs
-    → take (4 * i) (drop at xs) ≡ be32zs (take i zs) → take 4 (drop (at + 4 * i) xs) ≡ be32z z
-    → take (4 * (i + 1)) (drop at xs) ≡ be32zs (take (i + 1) (set zs i z))
-read_more xs at i zs z h before here =
-    two_parts xs at (4 * i) 4 (at + 4 * i) (4 * (i + 1)) refl (omega arith)
-    ∙ ap (λ ys. ys ++ take 4 (drop (at + 4 * i) xs)) before
-    ∙ ap (λ ys. be32zs (take i zs) ++ ys) here
-    ∙ flat_map_more be32z [] (take i zs) z
-    ∙ ap be32zs (sym (take_more_set zs i z h))
+-- a number that is read from a part has the bytes that stand there
+pub number_read : (xs : List ℕ) (at n : ℕ) → Bytes xs → at + 4 ≤ length xs → n ≡ from_be_bytes w32 (take 4 (drop at xs)) → be32 n ≡ take 4 (drop at xs)
+number_read xs at n f h e = sym (be32_bytes n) ∙ be_bytes_4 (take 4 (drop at xs)) n (part_long xs at 4 h) (part_fits xs f at 4) e
 
--- the same at a signed number, passed on as its bits
-pub signed_stands : (bs : List ℕ) (n : ℕ) (z : ℤ) → n < 2 ^ 32 → bs ≡ be32 n → z ≡ to_z w32 n → bs ≡ be32z (to_z w32 (of_z w32 z))
-signed_stands bs n z h e f =
-    e ∙ ap be32 (sym (ap (λ x. of_z w32 (to_z w32 (of_z w32 x))) f ∙ ap (λ m. of_z w32 (to_z w32 m)) (of_z-to_z w32 n h) ∙ of_z-to_z w32 n h))
+pub long_read : (xs : List ℕ) (at n : ℕ) → Bytes xs → at + 8 ≤ length xs → n ≡ from_be_bytes w64 (take 8 (drop at xs)) → be64 n ≡ take 8 (drop at xs)
+long_read xs at n f h e = sym (be64_bytes n) ∙ be_bytes_8 (take 8 (drop at xs)) n (part_long xs at 8 h) (part_fits xs f at 8) e
 
--- the eight bytes at an offset are those of the number that their halves give
-pub long_stands : (xs : List ℕ) (at high low n : ℕ) → take 4 (drop at xs) ≡ be32 high → take 4 (drop (at + 4) xs) ≡ be32 low
-    → low < 2 ^ 32 → n ≡ high * 4294967296 + low → take 8 (drop at xs) ≡ be64 n
-long_stands xs at high low n a b h e =
-    two_parts xs at 4 4 (at + 4) 8 refl refl ∙ ap (λ ys. ys ++ take 4 (drop (at + 4) xs)) a ∙ ap (λ ys. be32 high ++ ys) b
-    ∙ halves high low h ∙ ap be64 (sym e)
-
--- a command's first byte, and its operands after it
-pub lettered : (xs : List ℕ) (at n b : ℕ) (operands : List ℕ) → at < length xs → b ≡ get_or xs at 0
-    → take n (drop (at + 1) xs) ≡ operands → take (suc n) (drop at xs) ≡ b ∷ operands
-lettered xs at n b operands h e f =
-    one_more xs at (at + 1) n refl h ∙ ap (λ x. x ∷ take n (drop (at + 1) xs)) (sym e) ∙ ap (λ ys. b ∷ ys) f
-
--- operands of two numbers
-pub after-number : (xs : List ℕ) (at day n all : ℕ) (ys : List ℕ) → all ≡ 4 + n → take 4 (drop (at + 1) xs) ≡ be32 day
-    → take n (drop (at + 5) xs) ≡ ys → take all (drop (at + 1) xs) ≡ be32 day ++ ys
-after-number xs at day n all ys e a b =
-    two_parts xs (at + 1) 4 n (at + 5) all (omega arith) e ∙ ap (λ zs. zs ++ take n (drop (at + 5) xs)) a ∙ ap (λ zs. be32 day ++ zs) b
+-- numbers that are read from one part after another
+pub signed_reads : (xs : List ℕ) (zs : List ℤ) → Bytes xs → length xs ≡ 4 * length zs
+    → ((i : ℕ) → i < length zs → get_or zs i (pos 0) ≡ to_z w32 (from_be_bytes w32 (get_or (first_chunks 4 (length zs) xs) i []))) → be32zs zs ≡ xs
+signed_reads [] [] f l h = refl
+signed_reads (x ∷ xs) [] f l h = let no : ⊥ = omega arith in absurd no
+signed_reads xs (z ∷ zs) f l h =
+    let n : ℕ = from_be_bytes w32 (take 4 xs) in
+    let b = part_fits xs f 0 4 in
+    let small : n < 2 ^ 32 = omega (arith, b 0, b 1, b 2, b 3) in
+    let here : be32z z ≡ take 4 xs = ap be32 (ap (of_z w32) (h 0 (omega arith)) ∙ of_z-to_z w32 n small) ∙ number_read xs 0 n f (omega arith) refl in
+    let rest = signed_reads (drop 4 xs) zs (λ i. subst (λ b. Fits w8 b) (sym (get_or-drop 4 xs i 0)) (f (4 + i)))
+    (omega (arith, length-drop 4 xs)) (λ i k. h (suc i) (omega arith)) in
+    ap (λ ys. ys ++ be32zs zs) here ∙ ap (λ ys. take 4 xs ++ ys) rest ∙ take-append-drop 4 xs
 
 -- operands of five bytes and a number
-pub five_bytes : (xs : List ℕ) (at n : ℕ) → at + 10 ≤ length xs → take 4 (drop (at + 6) xs) ≡ be32 n
-    → take 9 (drop (at + 1) xs) ≡ get_or xs (at + 1) 0 ∷ get_or xs (at + 2) 0 ∷ get_or xs (at + 3) 0 ∷ get_or xs (at + 4) 0 ∷ get_or xs (at + 5) 0 ∷ be32 n
-five_bytes xs at n h e =
-    one_more xs (at + 1) (at + 2) 8 (omega arith) (omega arith)
-    ∙ ap (λ ys. get_or xs (at + 1) 0 ∷ ys) (one_more xs (at + 2) (at + 3) 7 (omega arith) (omega arith)
-    ∙ ap (λ ys. get_or xs (at + 2) 0 ∷ ys) (one_more xs (at + 3) (at + 4) 6 (omega arith) (omega arith)
-    ∙ ap (λ ys. get_or xs (at + 3) 0 ∷ ys) (one_more xs (at + 4) (at + 5) 5 (omega arith) (omega arith)
-    ∙ ap (λ ys. get_or xs (at + 4) 0 ∷ ys) (one_more xs (at + 5) (at + 6) 4 (omega arith) (omega arith)
-    ∙ ap (λ ys. get_or xs (at + 5) 0 ∷ ys) e))))
+pub five_bytes : (xs ys : List ℕ) → length xs ≡ 9 → ys ≡ take 4 (drop 5 xs)
+    → get_or xs 0 0 ∷ get_or xs 1 0 ∷ get_or xs 2 0 ∷ get_or xs 3 0 ∷ get_or xs 4 0 ∷ ys ≡ xs
+five_bytes xs ys l h = sym (
+    drop_more xs 0 0 (omega arith)
+    ∙ ap (λ zs. get_or xs 0 0 ∷ zs) (drop_more xs 1 0 (omega arith)
+    ∙ ap (λ zs. get_or xs 1 0 ∷ zs) (drop_more xs 2 0 (omega arith)
+    ∙ ap (λ zs. get_or xs 2 0 ∷ zs) (drop_more xs 3 0 (omega arith)
+    ∙ ap (λ zs. get_or xs 3 0 ∷ zs) (drop_more xs 4 0 (omega arith)
+    ∙ ap (λ zs. get_or xs 4 0 ∷ zs) (sym (h ∙ take_all 4 (drop 5 xs) (omega (arith, length-drop 5 xs)))))))))
 
--- a command stands where its letter does and its operands follow
-pub command_stands : (xs : List ℕ) (at n : ℕ) (v : Verb) (c : Command) → v ≡ verb_of c → width v ≡ suc n → at + width v ≤ length xs
-    → letter v ≡ get_or xs at 0 → take n (drop (at + 1) xs) ≡ operands_of c → take (width v) (drop at xs) ≡ bytes_of c
-command_stands xs at n v c e w h l f =
-    let here : at < length xs = omega arith in
-    ap (λ m. take m (drop at xs)) w ∙ lettered xs at n (letter (verb_of c)) (operands_of c) here (ap letter (sym e) ∙ l) f
+-- operands of a number and what follows it
+pub after_number : (xs ys zs : List ℕ) → ys ≡ take 4 xs → zs ≡ drop 4 xs → ys ++ zs ≡ xs
+after_number xs ys zs e f = ap (λ bs. bs ++ zs) e ∙ ap (λ bs. take 4 xs ++ bs) f ∙ take-append-drop 4 xs

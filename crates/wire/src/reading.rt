@@ -1,102 +1,77 @@
 //! Commands from bytes.
 
-ghost use Rattle.std.specs.Prelude.{◌≡◌, ◌+◌, ◌<◌, ◌≤◌, length, take, drop, IfOk, slice_index};
-ghost use Rattle.command.specs.Bytes.{be32, be64, be32z, be32zs};
-ghost use Rattle.command.specs.Verbs.{letter, width};
-ghost use Rattle.command.specs.Commands.{bytes_of, verb_of};
+ghost use Rattle.std.specs.Prelude.{◌≡◌, ◌+◌, ◌<◌, ◌≤◌, length, take, drop, IfOk};
+ghost use Rattle.command.specs.Bytes.{be32zs};
+ghost use Rattle.command.specs.Verbs.{width};
+ghost use Rattle.command.specs.Commands.{operands_of, verb_of};
 ghost use Rattle.wire.specs.Wire.{Reads, Answers};
 
-use command::{Command, Verb};
-use fault::Fault;
+use command::{Command, RawSettings, Verb};
+use fault::{Fault, located};
 use refusal::Refusal;
 
 /// The command whose bytes stand at `at`, and how many they are. A byte that begins no command is refused as
 /// unknown; no byte at all, and a command that the list ends within, as cut short. The fault is at `at`.
+// With an offset and not a slice: the fault is at it.
 pub fn read(bytes: &[u8], at: usize) -> Result<(Command, usize), Fault>
     ensures answer { Reads bytes.now at result }
     ensures exact { Answers bytes.now at result }
     ensures inside { IfOk result (λ p. (0 < p.1) × (at + p.1 ≤ length bytes.now)) }
 {
-    read_one(bytes, at)
-}
-
-fn read_one(bytes: &[u8], at: usize) -> Result<(Command, usize), Fault>
-    ensures answer { Reads bytes.now at result }
-    ensures inside { IfOk result (λ p. (0 < p.1) × (at + p.1 ≤ length bytes.now)) }
-{
-    if at >= bytes.len() {
-        return Err(Fault::at(Refusal::CutShort, at));
-    }
-    let Some(verb) = Verb::of(bytes[at]) else {
-        return Err(Fault::at(Refusal::UnknownByte, at));
-    };
+    let cut_short = Fault::at(Refusal::CutShort, at);
+    let rest = bytes.get(at..).ok_or(cut_short)?;
+    let (first, operands) = rest.split_first().ok_or(cut_short)?;
+    let verb = located(Verb::try_from(*first), at)?;
     let size = verb.width();
-    if bytes.len() - at < size {
-        return Err(Fault::at(Refusal::CutShort, at));
-    }
-    let command = command_at(bytes, at, verb);
+    let operands = operands.get(..size - 1).ok_or(cut_short)?;
+    let command = command_of(verb, operands);
     command.carried();
     Ok((command, size))
 }
 
-fn command_at(bytes: &[u8], at: usize, verb: Verb) -> Command
-    requires verb_in_bounds { at + width verb ≤ length bytes.now }
-    requires verb_value { letter verb ≡ slice_index bytes.now at }
+/// The command with this verb and these operands.
+fn command_of(verb: Verb, operands: &[u8]) -> Command
+    requires { 1 + length operands.now ≡ width verb }
     ensures kind { verb_of result ≡ verb }
-    ensures stands { take (width verb) (drop at bytes.now) ≡ bytes_of result }
+    ensures stands { operands_of result ≡ operands.now }
 {
     match verb {
-        Verb::Settings => Command::Settings {
-            kind: bytes[at + 1],
-            k: bytes[at + 2],
-            f: bytes[at + 3],
-            limit: bytes[at + 4],
-            term: bytes[at + 5],
-            n: u32_at(bytes, at + 6),
-        },
-        Verb::Radius => Command::Radius(u32_at(bytes, at + 1)),
+        Verb::Settings => Command::Settings(RawSettings {
+            kind: operands[0],
+            k: operands[1],
+            f: operands[2],
+            limit: operands[3],
+            term: operands[4],
+            n: u32::from_be_bytes(array_at(operands, 5)),
+        }),
+        Verb::Radius => Command::Radius(u32::from_be_bytes(array_at(operands, 0))),
         Verb::Open => Command::Open,
         Verb::Hull => Command::Hull {
-            day: u32_at(bytes, at + 1),
-            offsets: offsets_at(bytes, at + 5),
+            day: u32::from_be_bytes(array_at(operands, 0)),
+            offsets: offsets_of(&operands[4..]),
         },
         Verb::Joinery => Command::Joinery {
-            day: u32_at(bytes, at + 1),
-            word: u64_at(bytes, at + 5),
+            day: u32::from_be_bytes(array_at(operands, 0)),
+            word: u64::from_be_bytes(array_at(operands, 4)),
         },
-        Verb::Day => Command::Day(u32_at(bytes, at + 1)),
+        Verb::Day => Command::Day(u32::from_be_bytes(array_at(operands, 0))),
         Verb::Pick => Command::Pick,
     }
 }
 
-fn u32_at(bytes: &[u8], at: usize) -> u32
-    requires { at + 4 ≤ length bytes.now }
-    ensures { take 4 (drop at bytes.now) ≡ be32 result }
+/// The offsets that have these bytes.
+fn offsets_of(bytes: &[u8]) -> [i32; 8]
+    requires { length bytes.now ≡ 32 }
+    ensures { be32zs result ≡ bytes.now }
 {
-    u32::from_be_bytes([bytes[at], bytes[at + 1], bytes[at + 2], bytes[at + 3]])
+    let (offsets, _) = bytes.as_chunks();
+    array_at(offsets, 0).map(i32::from_be_bytes)
 }
 
-fn i32_at(bytes: &[u8], at: usize) -> i32
-    requires { at + 4 ≤ length bytes.now }
-    ensures { take 4 (drop at bytes.now) ≡ be32z result }
+/// The items from `at` on, as many as the array has.
+fn array_at<T: Copy, const N: usize>(items: &[T], at: usize) -> [T; N]
+    requires { at + N ≤ length items.now }
+    ensures { result ≡ take N (drop at items.now) }
 {
-    u32_at(bytes, at).cast_signed()
-}
-
-fn u64_at(bytes: &[u8], at: usize) -> u64
-    requires { at + 8 ≤ length bytes.now }
-    ensures { take 8 (drop at bytes.now) ≡ be64 result }
-{
-    u64::from(u32_at(bytes, at)) * 0x1_0000_0000 + u64::from(u32_at(bytes, at + 4))
-}
-
-fn offsets_at(bytes: &[u8], at: usize) -> [i32; 8]
-    requires { at + 32 ≤ length bytes.now }
-    ensures { take 32 (drop at bytes.now) ≡ be32zs result }
-{
-    let mut offsets = [0; 8];
-    for i in 0..8usize {
-        offsets[i] = i32_at(bytes, at + 4 * i);
-    }
-    offsets
+    *items[at..].first_chunk().unwrap()
 }

@@ -1,7 +1,6 @@
 //! Commands into bytes.
 
-ghost use Rattle.std.specs.Prelude.{◌≡◌, ℕ, ◌+◌, ◌≤◌, ◌∷◌, ◌++◌, length, take, drop, IfOk, if◌then◌else◌};
-ghost use Rattle.command.specs.Bytes.{be32, be64, be32z, be32zs};
+ghost use Rattle.std.specs.Prelude.{◌≡◌, ◌≤◌, length, IfOk, if◌then◌else◌};
 ghost use Rattle.command.specs.Commands.{bytes_of, size_of};
 ghost use Rattle.wire.specs.Wire.{room_for, if_room, with_front};
 
@@ -20,90 +19,40 @@ pub fn write(command: &Command, out: &mut [u8]) -> Result<usize, Fault>
     if out.len() < size {
         return Err(Fault::at(Refusal::CutShort, 0));
     }
-    put_command(out, command);
+    put_command(&mut out[..size], command);
     Ok(size)
 }
 
+/// Fills `out` with the command's bytes.
+#[tactic(auto, using(crate::proofs::Parts::filled_none))]
 fn put_command(out: &mut [u8], command: &Command)
-    requires { size_of command.now ≤ length out.old }
-    ensures front { take (size_of command.now) out.new ≡ bytes_of command.now }
-    ensures back { drop (size_of command.now) out.new ≡ drop (size_of command.now) out.old }
+    requires { length out.old ≡ size_of command.now }
+    ensures { out.new ≡ bytes_of command.now }
 {
-    let first = command.verb().byte();
+    command.carried();
+    out[0] = command.verb().into();
     match command {
-        Command::Settings {
-            kind,
-            k,
-            f,
-            limit,
-            term,
-            n,
-        } => {
-            put(out, 0, &[first, *kind, *k, *f, *limit, *term]);
-            put_u32(out, 6, *n);
+        Command::Settings(settings) => {
+            out[1..6].copy_from_slice(&[
+                settings.kind,
+                settings.k,
+                settings.f,
+                settings.limit,
+                settings.term,
+            ]);
+            out[6..].copy_from_slice(&settings.n.to_be_bytes());
         }
-        Command::Radius(radius) => {
-            put(out, 0, &[first]);
-            put_u32(out, 1, *radius);
+        Command::Radius(number) | Command::Day(number) => {
+            out[1..].copy_from_slice(&number.to_be_bytes());
         }
-        Command::Open => put(out, 0, &[first]),
         Command::Hull { day, offsets } => {
-            put(out, 0, &[first]);
-            put_u32(out, 1, *day);
-            put_offsets(out, 5, offsets);
+            out[1..5].copy_from_slice(&day.to_be_bytes());
+            out[5..].copy_from_slice(offsets.map(i32::to_be_bytes).as_flattened());
         }
         Command::Joinery { day, word } => {
-            put(out, 0, &[first]);
-            put_u32(out, 1, *day);
-            put_u64(out, 5, *word);
+            out[1..5].copy_from_slice(&day.to_be_bytes());
+            out[5..].copy_from_slice(&word.to_be_bytes());
         }
-        Command::Day(day) => {
-            put(out, 0, &[first]);
-            put_u32(out, 1, *day);
-        }
-        Command::Pick => put(out, 0, &[first]),
-    }
-}
-
-fn put(out: &mut [u8], at: usize, bytes: &[u8])
-    requires { at + length bytes.now ≤ length out.old }
-    ensures front { take (at + length bytes.now) out.new ≡ take at out.old ++ bytes.now }
-    ensures back { (k : ℕ) → at + length bytes.now ≤ k → drop k out.new ≡ drop k out.old }
-{
-    let end = at + bytes.len();
-    out[at..end].copy_from_slice(bytes);
-}
-
-fn put_u32(out: &mut [u8], at: usize, x: u32)
-    requires { at + 4 ≤ length out.old }
-    ensures front { take (at + 4) out.new ≡ take at out.old ++ be32 x }
-    ensures back { (k : ℕ) → at + 4 ≤ k → drop k out.new ≡ drop k out.old }
-{
-    put(out, at, &x.to_be_bytes());
-}
-
-fn put_u64(out: &mut [u8], at: usize, x: u64)
-    requires { at + 8 ≤ length out.old }
-    ensures front { take (at + 8) out.new ≡ take at out.old ++ be64 x }
-    ensures back { (k : ℕ) → at + 8 ≤ k → drop k out.new ≡ drop k out.old }
-{
-    put(out, at, &x.to_be_bytes());
-}
-
-fn put_i32(out: &mut [u8], at: usize, x: i32)
-    requires { at + 4 ≤ length out.old }
-    ensures front { take (at + 4) out.new ≡ take at out.old ++ be32z x }
-    ensures back { (k : ℕ) → at + 4 ≤ k → drop k out.new ≡ drop k out.old }
-{
-    put(out, at, &x.to_be_bytes());
-}
-
-fn put_offsets(out: &mut [u8], at: usize, offsets: &[i32; 8])
-    requires { at + 32 ≤ length out.old }
-    ensures front { take (at + 32) out.new ≡ take at out.old ++ be32zs offsets.now }
-    ensures back { (k : ℕ) → at + 32 ≤ k → drop k out.new ≡ drop k out.old }
-{
-    for i in 0..8usize {
-        put_i32(out, at + 4 * i, offsets[i]);
+        Command::Open | Command::Pick => {}
     }
 }

@@ -7,8 +7,6 @@
 ghost use Rattle.worked.specs.Cases.{Worked};
 
 /// Every worked case comes out as it should.
-pub fn worked_cases() -> u8
+pub fn worked_cases()
     ensures { Worked }
-{
-    0
-}
+{}

@@ -1,30 +1,16 @@
-use Rattle.std.proofs.Common.{eqb, length, refl}
-use Rattle.picking.proofs.Shelves.{part_room}
-use Rattle.row.specs.Seen.{judged}
-use Rattle.rules.specs.Calls.{place_of}
-use Rattle.rules.specs.Limits.{part_size}
-use Rattle.finding.proofs.Seeking.{no_place, seeking_here, seeking_none, seeking_on}
+use Rattle.std.proofs.Common.{◌≡◌, eqb, refl, ap, ◌∙◌, rules}
+use Rattle.rules.specs.Calls.{lying, place_of}
+use Rattle.rules.specs.Words.{first_of}
+use Rattle.finding.proofs.Seeking.{no_place}
 use Rattle.finding.proofs.seek.find_place.Goals as goal
-
-pub find_in_row-requires : goal.find_in_row-requires
-find_in_row-requires g c =
-    let j = c.loop-j.j in
-    record {
-      within = c.requires.within j c.loop-j-test.true;
-      room = part_room j (length c.args.rows.now) (part_size (judged c.args.settings)) (length c.args.places.now) c.loop-j-test.true c.requires.long;
-    }
-
-pub returns-in-Some : goal.returns-in-Some
-returns-in-Some g c =
-    seeking_here place_of refl no_place (λ x. eqb x.1.arrival c.args.arrival) c.args.settings c.args.rows.now c.args.places.now
-    c.loop-j.j c.in-Some.place c.loop-j-test.true c.in-Some.ensures c.loop-j.invariant
-
-pub loop-j-preserved : goal.loop-j-preserved
-loop-j-preserved g c =
-    seeking_on place_of refl no_place (λ x. eqb x.1.arrival c.args.arrival) c.args.settings c.args.rows.now c.args.places.now
-    c.loop-j.j c.loop-j-test.true c.in_default.ensures c.loop-j.invariant
 
 pub returns : goal.returns
 returns g c =
-    seeking_none place_of refl no_place (λ x. eqb x.1.arrival c.args.arrival) c.args.settings c.args.rows.now c.args.places.now
-    c.loop-j.j c.loop-j-test.false c.loop-j.invariant
+    c.first_answer.ensures place_of (λ x. eqb x.1.arrival c.args.arrival) (record {
+      none = refl;
+      some = no_place;
+      first = λ start xs r p.
+          let post = p.2 in
+          let e : r ≡ place_of (first_of (λ x. eqb x.1.arrival c.args.arrival) (lying start p.0.now)) = search rules in
+          e ∙ ap (λ ys. place_of (first_of (λ x. eqb x.1.arrival c.args.arrival) (lying start ys))) p.1;
+    })

@@ -1,11 +1,7 @@
-use Rattle.std.proofs.Common.{◌≡◌, ℕ, ◌+◌, ◌*◌, ◌≤◌, ◌++◌, take, drop}
+use Rattle.std.proofs.Common.{◌≡◌, ◌+◌, ◌*◌, ◌≤◌, ◌++◌, length, take}
 use Rattle.listing.specs.Texts.{offsets_text}
 use Rattle.listing.proofs.text.put_offsets.Given as goal
 
--- the offsets so far are put, and what lies past them is as it was
-abbrev pub invariant-loop-i : goal.invariant-loop-i
-invariant-loop-i l =
-    (take l.at l.out ≡ take l.initial.at l.initial.out ++ offsets_text (take l.i l.offsets))
-    × (l.initial.at ≤ l.at)
-    × (l.at ≤ l.initial.at + 12 * l.i)
-    × ((k : ℕ) → l.at ≤ k → drop k l.out ≡ drop k l.initial.out)
+abbrev pub invariant-loop-offset : goal.invariant-loop-offset
+invariant-loop-offset l =
+    (l.line ≡ l.initial.line ++ offsets_text (take l.offset-index l.offsets)) × (length l.line ≤ length l.initial.line + 12 * l.offset-index)

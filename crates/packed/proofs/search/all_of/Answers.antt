@@ -1,19 +1,9 @@
-use Rattle.std.proofs.Common.{sym, ◌∙◌}
-use Rattle.packed.proofs.Alls.{all_end, all_not, all_on}
+use Rattle.std.proofs.Common.{rules}
+use Rattle.std.proofs.lemmas.Iterator.{YieldsList-from_slice}
+use Rattle.std.proofs.lemmas.Iterator.Search.{all_from_yields_List}
 use Rattle.packed.proofs.search.all_of.Goals as goal
-
-pub returns-then-not-passes_at : goal.returns-then-not-passes_at
-returns-then-not-passes_at g c =
-    sym (all_not (g.Q.Test.passes c.args.test.now) c.args.list.now c.loop-i.i c.index-list-i.result c.loop-i-test.true
-    c.index-list-i.is c.if-not-passes_at.ensures)
-    ∙ c.loop-i.invariant
-
-pub loop-i-preserved : goal.loop-i-preserved
-loop-i-preserved g c =
-    all_on (g.Q.Test.passes c.args.test.now) c.args.list.now c.loop-i.i c.index-list-i.result c.loop-i-test.true
-    c.index-list-i.is c.if-not-passes_at.ensures
-    ∙ c.loop-i.invariant
 
 pub returns : goal.returns
 returns g c =
-    sym (all_end (g.Q.Test.passes c.args.test.now) c.args.list.now c.loop-i.i c.loop-i-test.false) ∙ c.loop-i.invariant
+    all_from_yields_List (g.Q.Test.passes c.args.test.now) _ _ _ c.all.ensures.ran (YieldsList-from_slice c.args.list.now cc)
+    (λ x b q k. search rules)

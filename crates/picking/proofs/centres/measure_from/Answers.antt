@@ -1,4 +1,4 @@
-use Rattle.std.proofs.Common.{◌≡◌, ℕ, length, arith}
+use Rattle.std.proofs.Common.{◌≡◌, ℕ, length, ap, ◌∙◌, arith}
 use Rattle.rules.specs.Picking.{apart}
 use Rattle.rules.specs.declared.place.Place.{Place}
 use Rattle.picking.proofs.Lowerings.{measured_all, measured_more}
@@ -13,7 +13,8 @@ loop-i-preserved g c =
     let same = c.requires in
     let kept = c.loop-i.auto.work in
     let long : length ns ≡ length xs = omega arith in
-    measured_more f xs ns c.loop-i.i x c.measure.result c.loop-i-test.true long c.measure.ensures c.loop-i.invariant
+    measured_more f xs ns c.loop-i.i x c.measure.result c.loop-i-test.true long
+    (c.measure.ensures ∙ ap f c.index-list-i.is) c.loop-i.invariant
 
 pub returns : goal.returns
 returns g c =

@@ -11,16 +11,17 @@ returns g c =
     let s = c.args.settings in
     let w = part_size (judged s) in
     let at = c.args.at in
-    let ys = c.change.new.part in
+    let ys = c.change_on.new.part in
     let room = c.requires.room in
     let inside : at ≤ length c.args.places.now = omega arith in
     let long : length ys ≡ w = search (rules, overwrites) in
-    let same = simp past_start at c.change.ensures.seen in
+    let size = c.part_size.ensures in
+    let same = simp (past_start, size) at c.change_on.ensures.seen in
     record {
       seen = λ fits.
-          ap (seen_row s c.change.new.row) (cut_put_mid at _ w c.args.places.now ys inside (omega arith) ∙ take_all w ys (omega arith))
+          ap (seen_row s c.change_on.new.row) (cut_put_mid at _ w c.args.places.now ys inside (omega arith) ∙ take_all w ys (omega arith))
           ∙ same fits;
-      kept = c.change.ensures.kept;
-      radius = c.change.ensures.radius;
+      kept = c.change_on.ensures.kept;
+      radius = c.change_on.ensures.radius;
       between = record { before = search (rules, overwrites); after = search (rules, overwrites) };
     }

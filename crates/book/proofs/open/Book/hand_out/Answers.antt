@@ -1,8 +1,10 @@
-use Rattle.std.proofs.Common.{take, Some, None, sym, ◌∙◌, arith}
+use Rattle.std.proofs.Common.{take, sym, ap, ◌∙◌}
+use Rattle.row.specs.Seen.{judged, seen_rows}
+use Rattle.rules.specs.Calls.{HandOutRule}
 use Rattle.rules.specs.Runs as runs
 use Rattle.book.specs.Seen.{seen}
-use Rattle.book.proofs.Performed.{rows_seen, served}
-use Rattle.book.proofs.Sought.{handed, live_long, live_within, seek_short}
+use Rattle.book.proofs.Performed.{served}
+use Rattle.book.proofs.Sought.{handed, ok_or_same, seek_short, seen-radii}
 use Rattle.book.proofs.open.Book.hand_out.Goals as goal
 
 pub returns-then-is_short : goal.returns-then-is_short
@@ -16,39 +18,21 @@ returns-then-is_short g c =
       room = λ dist metric counts law es reached. (served dist metric counts law _ es b (runs.handed_out c.args.at reached rule)).0;
     }
 
-pub piece_at-requires : goal.piece_at-requires
-piece_at-requires g c =
-    let b = c.args.self.now in
-    let xs = c.args.shelf.now.places.now in
-    let long = b.long in
-    let few = b.few in
-    let live = c.live_rows.result.now in
-    record {
-      within = live_within b.settings b.count b.rows live few c.live_rows.ensures b.within (omega arith);
-      long = live_long b.settings b.count b.rows live xs b.posts b.day c.live_rows.ensures (omega arith) (c.if-is_short.ensures xs (sym c.len.ensures))
-          (rows_seen b.settings b.count b.rows xs (omega arith));
-    }
+pub radii-requires : goal.radii-requires
+radii-requires g c = c.if-is_short.ensures c.args.shelf.now.places.now (sym c.len.ensures)
 
-pub returns-in-Some : goal.returns-in-Some
-returns-in-Some g c =
+pub returns : goal.returns
+returns g c =
     let b0 = c.args.self.now in
     let xs = c.args.shelf.now.places.now in
-    let rule = handed b0.settings c.live_rows.result.now (take b0.count b0.rows) b0.posts b0.day xs c.live_rows.ensures (c.if-is_short.ensures xs (sym c.len.ensures))
-    c.args.at (Some c.in-Some.piece) (sym c.in-Some.is ∙ c.piece_at.ensures) in
+    let b = seen b0 xs in
+    let r = c.radii.result in
+    let rule : HandOutRule b c.args.at c.ok_or.result =
+    c.ok_or.ensures.value ∙ ok_or_same c.piece_at.result ∙ handed b (judged r.settings) (seen_rows r.settings r.rows.now r.places.now) (ap judged c.radii.ensures.settings)
+    (seen-radii b0.settings r.settings (take b0.count b0.rows) r.rows.now xs r.places.now c.radii.ensures.settings c.radii.ensures.rows c.radii.ensures.places)
+    (c.if-is_short.ensures xs (sym c.len.ensures)) c.args.at c.piece_at.result c.piece_at.ensures in
     record {
       rule = rule;
       run = λ dist counts es reached. runs.handed_out c.args.at reached rule;
-      room = λ dist metric counts law es reached. (served dist metric counts law _ es (seen b0 xs) (runs.handed_out c.args.at reached rule)).0;
-    }
-
-pub returns-in-None : goal.returns-in-None
-returns-in-None g c =
-    let b0 = c.args.self.now in
-    let xs = c.args.shelf.now.places.now in
-    let rule = handed b0.settings c.live_rows.result.now (take b0.count b0.rows) b0.posts b0.day xs c.live_rows.ensures (c.if-is_short.ensures xs (sym c.len.ensures))
-    c.args.at None (sym c.in-None.is ∙ c.piece_at.ensures) in
-    record {
-      rule = rule;
-      run = λ dist counts es reached. runs.handed_out c.args.at reached rule;
-      room = λ dist metric counts law es reached. (served dist metric counts law _ es (seen b0 xs) (runs.handed_out c.args.at reached rule)).0;
+      room = λ dist metric counts law es reached. (served dist metric counts law _ es b (runs.handed_out c.args.at reached rule)).0;
     }

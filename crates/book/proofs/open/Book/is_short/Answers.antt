@@ -11,5 +11,6 @@ returns g c xs e =
     let few = b.few in
     let long = b.long in
     let n = length_seen b.settings (take b.count b.rows) xs ∙ length-take-le b.count b.rows (omega arith) in
-    ap (λ m. ltb m (b.count * part_size (judged b.settings))) (sym e)
+    ap (λ m. ltb c.args.places (b.count * m)) c.part_size.ensures
+    ∙ ap (λ m. ltb m (b.count * part_size (judged b.settings))) (sym e)
     ∙ ap (λ m. ltb (length xs) (m * part_size (judged b.settings))) (sym n)

@@ -1,4 +1,5 @@
 use Rattle.std.proofs.Common.{◌≡◌, ℕ, suc, ◌*◌, ◌≤◌, List, map, length, take, Some, None, Ok, sym, refl, ap, ◌∙◌, subst, add-one, arith}
+use Rattle.std.proofs.lemmas.Result.{err_from_is_err_and}
 use Rattle.cover.specs.Distances.{Metric}
 use Rattle.row.specs.Seen.{judged, seen_rows}
 use Rattle.std.specs.List.{AllByRecursion as Every}
@@ -13,19 +14,21 @@ use Rattle.rules.specs.Runs as runs
 use Rattle.rules.specs.Steps.{post_row}
 use Rattle.book.specs.Seen.{seen}
 use Rattle.book.proofs.Performed.{post_fitting, post_performed, post_refused, post_room, rows_seen, seen-after, served}
+use Rattle.book.proofs.Refused.{refusal_of, why_from}
 use Rattle.book.proofs.Settling.{true_not_false}
 use Rattle.book.proofs.open.Book.post.Goals as goal
 
-pub returns-in-Some : goal.returns-in-Some
-returns-in-Some g c =
+pub returns-in_err-may_post : goal.returns-in_err-may_post
+returns-in_err-may_post g c =
     let xs = c.args.shelf.now.places.now in
     let b = seen c.args.self.now xs in
     let p = c.args.piece in
     let d = c.args.day in
     let dist = g.T.Tape.dist c.args.tape.now in
     let counts = g.W.Term.counts c.args.term.now in
-    let e : why_not_post b d ≡ Some c.in-Some.why = sym (c.why_not_post.ensures xs (sym c.len.ensures)) ∙ c.in-Some.is in
-    let rule = post_refused dist counts b p d c.in-Some.why e in
+    let e : why_not_post b d ≡ Some c.in_err-may_post.field-0.0 =
+    why_from _ _ (c.may_post.ensures xs (sym c.len.ensures)) ∙ ap refusal_of c.in_err-may_post.was in
+    let rule = post_refused dist counts b p d c.in_err-may_post.field-0.0 e in
     let metric : Metric dist = record {
       range = g.met.T.Tape.range c.args.tape.now;
       zero = g.met.T.Tape.zero c.args.tape.now;
@@ -37,7 +40,8 @@ returns-in-Some g c =
       expired = g.met.W.Term.expired c.args.term.now;
       newer = g.met.W.Term.newer c.args.term.now;
     } in
-    record {
+    let q = err_from_is_err_and c.from_residual.result c.from_residual.ensures.1 in
+    rw (q.1, q.2) (record {
       answer = rule.answer;
       rule = λ fits. rule;
       refused = λ _. (refl, refl);
@@ -45,7 +49,7 @@ returns-in-Some g c =
       run = λ es reached. runs.posted p d reached rule;
       room = λ es reached. served dist metric counts law _ es b (runs.posted p d reached rule);
       lent = refl;
-    }
+    })
 
 pub change_rows-requires : goal.change_rows-requires
 change_rows-requires g c =
@@ -53,7 +57,8 @@ change_rows-requires g c =
     let b = c.args.self.now in
     let few = b.few in
     let size = b.long in
-    let e : why_not_post (seen b xs) c.args.day ≡ None = sym (c.why_not_post.ensures xs (sym c.len.ensures)) ∙ c.in_default.is in
+    let e : why_not_post (seen b xs) c.args.day ≡ None =
+    why_from _ _ (c.may_post.ensures xs (sym c.len.ensures)) ∙ ap refusal_of c.in_ok-may_post.was in
     let room = post_room (seen b xs) c.args.day e in
     let n = rows_seen b.settings b.count b.rows xs (omega arith) in
     record { long = subst (λ (m : ℕ). m * part_size (judged b.settings) ≤ length xs) n room }
@@ -69,7 +74,8 @@ returns g c =
     let d = c.args.day in
     let dist = g.T.Tape.dist c.args.tape.now in
     let counts = g.W.Term.counts c.args.term.now in
-    let e : why_not_post b d ≡ None = sym (c.why_not_post.ensures xs (sym c.len.ensures)) ∙ c.in_default.is in
+    let e : why_not_post b d ≡ None =
+    why_from _ _ (c.may_post.ensures xs (sym c.len.ensures)) ∙ ap refusal_of c.in_ok-may_post.was in
     let after : ℕ → List (view.Row g.row.P.Denot) = λ n.
     map (post_row dist counts (judged b0.settings) (record { piece = p; arrival = n; day = d; attractor = 0 })) (seen_rows b0.settings (take b0.count b0.rows) xs) in
     let is : Fits (Opened (posted dist counts p d b)) → seen b1 ys ≡ posted dist counts p d b = λ fits.

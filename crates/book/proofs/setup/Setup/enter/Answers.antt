@@ -1,19 +1,22 @@
-use Rattle.std.proofs.Common.{◌≡◌, ◌<◌, length, take, Some, None, sym, refl, ◌∙◌, arith, length-set}
+use Rattle.std.proofs.Common.{◌≡◌, ◌<◌, length, take, Some, None, refl, ap, ◌∙◌, arith, length-set}
+use Rattle.std.proofs.lemmas.Result.{err_from_is_err_and}
 use Rattle.std.proofs.lemmas.List.{length-take-le}
 use Rattle.row.specs.Seen.{judged}
 use Rattle.rules.specs.Calls.{why_not_radius}
 use Rattle.rules.specs.Runs.{tried}
 use Rattle.book.specs.Seen.{setting_up}
+use Rattle.book.proofs.Refused.{refusal_of, why_from}
 use Rattle.book.proofs.Settling.{bounded_set, none_room, radius-entered, radius-refused, true_not_false}
 use Rattle.book.proofs.setup.Setup.enter.Goals as goal
 
-pub returns-in-Some : goal.returns-in-Some
-returns-in-Some g c =
+pub returns-in_err-may_enter : goal.returns-in_err-may_enter
+returns-in_err-may_enter g c =
     let u = setting_up c.args.self.now in
     let r = c.args.radius in
-    let e : why_not_radius u r ≡ Some c.in-Some.why = sym c.why_not.ensures ∙ c.in-Some.is in
-    let rule = radius-refused u r c.in-Some.why e in
-    record { rule = rule; same = λ _. refl; run = λ dist counts es reached. tried r reached rule }
+    let e : why_not_radius u r ≡ Some c.in_err-may_enter.field-0.0 = why_from _ _ c.may_enter.ensures ∙ ap refusal_of c.in_err-may_enter.was in
+    let rule = radius-refused u r c.in_err-may_enter.field-0.0 e in
+    let p = err_from_is_err_and c.from_residual.result c.from_residual.ensures.1 in
+    rw (p.1, p.2) (record { rule = rule; same = λ _. refl; run = λ dist counts es reached. tried r reached rule })
 
 pub invariant_of-self : goal.invariant_of-self
 invariant_of-self g c =
@@ -21,7 +24,7 @@ invariant_of-self g c =
     let low = b.some in
     let long = b.long in
     let few = b.few in
-    let e : why_not_radius (setting_up b) c.args.radius ≡ None = sym c.why_not.ensures ∙ c.in_default.is in
+    let e : why_not_radius (setting_up b) c.args.radius ≡ None = why_from _ _ c.may_enter.ensures ∙ ap refusal_of c.in_ok-may_enter.was in
     let room = none_room (judged b.settings) (take b.count b.radii) c.args.radius e in
     let size = length-take-le b.count b.radii (omega arith) in
     let left = room.0 in
@@ -39,7 +42,7 @@ returns g c =
     let r = c.args.radius in
     let long = b.long in
     let few = b.few in
-    let e : why_not_radius (setting_up b) r ≡ None = sym c.why_not.ensures ∙ c.in_default.is in
+    let e : why_not_radius (setting_up b) r ≡ None = why_from _ _ c.may_enter.ensures ∙ ap refusal_of c.in_ok-may_enter.was in
     let room = none_room (judged b.settings) (take b.count b.radii) r e in
     let size = length-take-le b.count b.radii (omega arith) in
     let left = room.0 in
