@@ -1,11 +1,14 @@
-//! A text that is put together piece by piece, of bytes and numbers.
+//! Bytes and numbers put into a text: into a list that is lent, or to the end of a text that has its own room.
 
 #![tactic(auto)]
 
-ghost use Rattle.std.specs.Prelude.{◌≡◌, ◌+◌, ◌<◌, ◌≤◌, true, [], ◌∷◌, ◌++◌, length, decimal};
-ghost use Rattle.std.specs.Fmt.{digit_glyph, signed_decimal};
+ghost use Rattle.std.specs.Prelude.{◌≡◌, ◌+◌, ◌≤◌, [], ◌++◌, length, decimal};
+ghost use Rattle.std.specs.Fmt.{signed_decimal};
 ghost use Rattle.digits.specs.Digits.{hex_digits};
 
+mod slices;
+
+pub use slices::{put, put_count, put_hex, put_number, put_offset};
 use std::marker::Model;
 
 /// A text in fixed room, to whose end bytes and numbers are put.
@@ -41,58 +44,38 @@ impl<const ROOM: usize> Text<ROOM> {
         &self.bytes[..self.len]
     }
 
+    /// Takes all away that was put.
+    pub fn clear(&mut self)
+        ensures { self.new ≡ [] }
+    {
+        self.len = 0;
+    }
+
     /// Puts the bytes.
     pub fn put(&mut self, bytes: &[u8])
         requires { length self.old + length bytes.now ≤ ROOM }
         ensures { self.new ≡ self.old ++ bytes.now }
     {
-        let end = self.len + bytes.len();
-        let room = &mut self.bytes[..];
-        room[self.len..end].copy_from_slice(bytes);
-        self.len = end;
-    }
-
-    /// One digit, of any base up to 16.
-    fn put_digit(&mut self, digit: u8)
-        requires room { length self.old < ROOM }
-        requires digit_bound { digit < 16 }
-        ensures { self.new ≡ self.old ++ (digit_glyph true digit ∷ []) }
-    {
-        self.put(&[digit_byte(digit)]);
-    }
-
-    fn put_decimal(&mut self, n: u64)
-        requires { length self.old + length (decimal n) ≤ ROOM }
-        ensures { self.new ≡ self.old ++ decimal n }
-    {
-        if n < 10 {
-            self.put_digit(n as u8);
-        } else {
-            let (rest, last) = split_last(n);
-            self.put_decimal(rest);
-            self.put_digit(last);
-        }
+        self.len = put(&mut self.bytes, self.len, bytes);
     }
 
     // Two methods for numbers: they promise two different rooms.
     /// The number in decimal digits, of which it has at most ten.
-    #[tactic(auto, using(crate::proofs::Figures::number_short))]
     pub fn put_number(&mut self, n: u32)
         requires { length self.old + 10 ≤ ROOM }
         ensures is { self.new ≡ self.old ++ decimal n }
         ensures bound { length self.new ≤ length self.old + 10 }
     {
-        self.put_decimal(u64::from(n));
+        self.len = put_number(&mut self.bytes, self.len, n);
     }
 
     /// The count in decimal digits, of which it has at most twenty.
-    #[tactic(auto, using(crate::proofs::Figures::count_short))]
     pub fn put_count(&mut self, n: usize)
         requires { length self.old + 20 ≤ ROOM }
         ensures is { self.new ≡ self.old ++ decimal n }
         ensures bound { length self.new ≤ length self.old + 20 }
     {
-        self.put_decimal(n as u64);
+        self.len = put_count(&mut self.bytes, self.len, n);
     }
 
     /// The number in decimal digits, after a minus if it is negative.
@@ -101,10 +84,7 @@ impl<const ROOM: usize> Text<ROOM> {
         ensures is { self.new ≡ self.old ++ signed_decimal x }
         ensures bound { length self.new ≤ length self.old + 11 }
     {
-        if x < 0 {
-            self.put(b"-");
-        }
-        self.put_number(x.unsigned_abs());
+        self.len = put_offset(&mut self.bytes, self.len, x);
     }
 
     /// The last `count` hexadecimal digits of the number.
@@ -113,31 +93,6 @@ impl<const ROOM: usize> Text<ROOM> {
         ensures is { self.new ≡ self.old ++ hex_digits count n }
         ensures end { length self.new ≡ length self.old + count }
     {
-        if count > 0 {
-            self.put_hex(n / 16, count - 1);
-            self.put_digit((n % 16) as u8);
-        }
-    }
-}
-
-/// The number that the digits before the last make, and the last.
-fn split_last(n: u64) -> (u64, u8)
-    requires { 10 ≤ n }
-    ensures smaller { result.0 < n }
-    ensures digit { result.1 < 10 }
-    ensures digits { decimal n ≡ decimal result.0 ++ (digit_glyph true result.1 ∷ []) }
-    ensures count { length (decimal n) ≡ length (decimal result.0) + 1 }
-{
-    (n / 10, (n % 10) as u8)
-}
-
-fn digit_byte(digit: u8) -> u8
-    requires { digit < 16 }
-    ensures { result ≡ digit_glyph true digit }
-{
-    if digit < 10 {
-        b'0' + digit
-    } else {
-        b'7' + digit
+        self.len = put_hex(&mut self.bytes, self.len, n, count);
     }
 }

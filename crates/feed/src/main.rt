@@ -7,8 +7,8 @@ ghost use Rattle.feed.specs.Jobs.{plain_job, option_job};
 
 use anyhow::anyhow;
 use command::LONGEST;
-use listing::text_of;
-use script::parse;
+use listing::{Line, write_text};
+use script::{Lines, parse};
 use std::io::{BufWriter, Read, Write};
 use std::{env, io};
 
@@ -97,7 +97,7 @@ fn write_feed(rt: &HostRuntime, text: &[u8]) -> anyhow::Result<usize> {
     let mut out = BufWriter::new(rt.alloc(), rt.stdout())?;
     let mut bytes = [0; LONGEST];
     let mut bad = 0usize;
-    for (index, line) in text.split(|byte| *byte == b'\n').enumerate() {
+    for (index, line) in Lines::of(text).enumerate() {
         match parse(line) {
             Ok(Some(command)) => {
                 let size = wire::write(&command, &mut bytes)?;
@@ -117,6 +117,7 @@ fn write_feed(rt: &HostRuntime, text: &[u8]) -> anyhow::Result<usize> {
 /// Prints the commands of the feed, one to a line, and last the fault that ends them, if one does.
 fn read_feed(rt: &HostRuntime, bytes: &[u8], offsets: bool) -> io::Result<()> {
     let mut out = BufWriter::new(rt.alloc(), rt.stdout())?;
+    let mut line = Line::new();
     // A count by hand: the next command begins where this one ends, and an iterator for this one loop would be longer.
     let mut at = 0;
     while at < bytes.len() {
@@ -125,7 +126,7 @@ fn read_feed(rt: &HostRuntime, bytes: &[u8], offsets: bool) -> io::Result<()> {
                 if offsets {
                     write!(out, "{at} ")?;
                 }
-                let mut line = text_of(&command);
+                write_text(&command, &mut line);
                 line.put(b"\n");
                 out.write_all(line.as_slice())?;
                 at += size;

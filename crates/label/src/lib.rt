@@ -6,7 +6,7 @@ use rules::Picked;
 
 pub mod text;
 
-pub use text::{LABEL_ROOM, label_text};
+pub use text::{LABEL_ROOM, label_text, put_label};
 
 /// The label of a rack: what a pick answered, and the arrivals of its centres. There are as many as the pick counts;
 /// what stands behind them is 0.

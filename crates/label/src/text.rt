@@ -1,10 +1,10 @@
 //! The text of a label.
 
-ghost use Rattle.std.specs.Prelude.{◌≡◌, ◌+◌, ◌≤◌, ◌++◌, length, take};
+ghost use Rattle.std.specs.Prelude.{◌≡◌, ◌+◌, ◌≤◌, ◌++◌, length, take, drop};
 ghost use Rattle.label.specs.Texts.{label_text, picked_text, floor_text, grain_text, arrivals_text};
 
 use crate::Label;
-use digits::Text;
+use digits::{Text, put};
 use rules::{Grain, Picked};
 
 /// Room for any label's text, and a line feed after it.
@@ -20,6 +20,16 @@ pub fn label_text(label: &Label) -> Text<LABEL_ROOM>
     put_picked(&mut line, &label.picked);
     put_arrivals(&mut line, &label.arrivals, label.picked.count);
     line
+}
+
+/// Puts the label's text at the front of `out` and answers how long it is. The rest of the list stays. However many
+/// centres the pick counts, at most twelve arrivals are put.
+pub fn put_label(label: &Label, out: &mut [u8; LABEL_ROOM]) -> usize
+    ensures inside { result ≤ 199 }
+    ensures front { take result out.new ≡ label_text label.now }
+    ensures back { drop result out.new ≡ drop result out.old }
+{
+    put(out, 0, label_text(label).as_slice())
 }
 
 fn put_picked(line: &mut Text<LABEL_ROOM>, picked: &Picked)

@@ -4,4 +4,4 @@
 
 pub mod text;
 
-pub use text::{LINE_ROOM, text_of};
+pub use text::{LINE_ROOM, Line, put_text, text_of, write_text};

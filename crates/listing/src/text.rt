@@ -1,25 +1,47 @@
 //! The text of each command.
 
-ghost use Rattle.std.specs.Prelude.{◌≡◌, ◌+◌, ◌≤◌, ◌++◌, length};
+ghost use Rattle.std.specs.Prelude.{◌≡◌, ◌+◌, ◌≤◌, ◌++◌, length, take, drop};
 ghost use Rattle.listing.specs.Texts.{text_of, kind_text, term_text, settings_text, offsets_text, hex_text, hex_width};
 
 use command::{Command, RawSettings};
-use digits::Text;
+use digits::{Text, put};
 
 /// Room for any command's text, and a line feed after it.
 pub const LINE_ROOM: usize = 112;
 
+/// A text with that room.
+pub type Line = Text<LINE_ROOM>;
+
 /// The text of the command.
 // Not a Display: printing can fail, and this cannot.
-pub fn text_of(command: &Command) -> Text<LINE_ROOM>
+pub fn text_of(command: &Command) -> Line
     ensures inside { length result ≤ 111 }
     ensures text { result ≡ text_of command.now }
 {
-    let mut line = Text::new();
+    let mut line = Line::new();
+    write_text(command, &mut line);
+    line
+}
+
+/// Puts the command's text at the front of `out` and answers how long it is. The rest of the list stays.
+pub fn put_text(command: &Command, out: &mut [u8; LINE_ROOM]) -> usize
+    ensures inside { result ≤ 111 }
+    ensures front { take result out.new ≡ text_of command.now }
+    ensures back { drop result out.new ≡ drop result out.old }
+{
+    put(out, 0, text_of(command).as_slice())
+}
+
+/// Makes the line the command's text, whatever it was. A line that is used again is not made anew for each command.
+pub fn write_text(command: &Command, line: &mut Line)
+    ensures inside { length line.new ≤ 111 }
+    ensures text { line.new ≡ text_of command.now }
+{
+    line.clear();
     match command {
         Command::Settings(settings) => {
-            put_settings(&mut line, settings);
-            put_term(&mut line, settings.term, settings.n);
+            put_settings(line, settings);
+            put_term(line, settings.term, settings.n);
         }
         Command::Radius(radius) => {
             line.put(b"radius ");
@@ -29,12 +51,12 @@ pub fn text_of(command: &Command) -> Text<LINE_ROOM>
         Command::Hull { day, offsets } => {
             line.put(b"hull ");
             line.put_number(*day);
-            put_offsets(&mut line, offsets);
+            put_offsets(line, offsets);
         }
         Command::Joinery { day, word } => {
             line.put(b"joinery ");
             line.put_number(*day);
-            put_word(&mut line, *word);
+            put_word(line, *word);
         }
         Command::Day(day) => {
             line.put(b"day ");
@@ -42,11 +64,10 @@ pub fn text_of(command: &Command) -> Text<LINE_ROOM>
         }
         Command::Pick => line.put(b"pick"),
     }
-    line
 }
 
 /// The settings but for the term.
-fn put_settings(line: &mut Text<LINE_ROOM>, settings: &RawSettings)
+fn put_settings(line: &mut Line, settings: &RawSettings)
     requires { length line.old + 64 ≤ LINE_ROOM }
     ensures is { line.new ≡ line.old ++ settings_text settings.now.kind settings.now.k settings.now.f settings.now.limit }
     ensures bound { length line.new ≤ length line.old + 64 }
@@ -62,7 +83,7 @@ fn put_settings(line: &mut Text<LINE_ROOM>, settings: &RawSettings)
     line.put(b" ");
 }
 
-fn put_kind(line: &mut Text<LINE_ROOM>, kind: u8)
+fn put_kind(line: &mut Line, kind: u8)
     requires { length line.old + 15 ≤ LINE_ROOM }
     ensures is { line.new ≡ line.old ++ kind_text kind }
     ensures bound { length line.new ≤ length line.old + 15 }
@@ -77,7 +98,7 @@ fn put_kind(line: &mut Text<LINE_ROOM>, kind: u8)
     }
 }
 
-fn put_term(line: &mut Text<LINE_ROOM>, term: u8, n: u32)
+fn put_term(line: &mut Line, term: u8, n: u32)
     requires { length line.old + 28 ≤ LINE_ROOM }
     ensures is { line.new ≡ line.old ++ term_text term n }
     ensures bound { length line.new ≤ length line.old + 28 }
@@ -94,7 +115,7 @@ fn put_term(line: &mut Text<LINE_ROOM>, term: u8, n: u32)
     line.put_number(n);
 }
 
-fn put_offsets(line: &mut Text<LINE_ROOM>, offsets: &[i32; 8])
+fn put_offsets(line: &mut Line, offsets: &[i32; 8])
     requires { length line.old + 96 ≤ LINE_ROOM }
     ensures is { line.new ≡ line.old ++ offsets_text offsets.now }
     ensures bound { length line.new ≤ length line.old + 96 }
@@ -106,7 +127,7 @@ fn put_offsets(line: &mut Text<LINE_ROOM>, offsets: &[i32; 8])
 }
 
 /// The word in two, four, eight or sixteen hexadecimal digits.
-fn put_word(line: &mut Text<LINE_ROOM>, word: u64)
+fn put_word(line: &mut Line, word: u64)
     requires { length line.old + 19 ≤ LINE_ROOM }
     ensures is { line.new ≡ line.old ++ hex_text word }
     ensures bound { length line.new ≤ length line.old + 19 }

@@ -4,6 +4,7 @@
 #![tactic(auto)]
 
 ghost use Rattle.std.specs.Prelude.{◌<◌, length, IfOk, IsTrue};
+ghost use Rattle.rack.specs.Waiting.{EndOf};
 
 mod inflow;
 
@@ -91,10 +92,11 @@ struct Rack {
 }
 
 impl Rack {
-    /// Takes every command that has arrived, and answers whether the feed goes on. What then waits is less than the
-    /// longest command.
+    /// Takes every command that has arrived, and answers whether the feed goes on. What then waits is the end of what
+    /// waited, and less than the longest command.
     fn take_all(&mut self, inflow: &mut Inflow, ended: bool) -> io::Result<bool>
-        ensures { IfOk result (λ on. IsTrue on → length inflow.new.bytes < LONGEST) }
+        ensures left { EndOf inflow.old.bytes inflow.new.bytes }
+        ensures short { IfOk result (λ on. IsTrue on → length inflow.new.bytes < LONGEST) }
     {
         loop {
             match look(inflow.waiting(), inflow.offset(), ended) {

@@ -1,7 +1,12 @@
 -- Lines, and the words of a line.
-use Rattle.std.specs.Prelude.{ℕ, ◌+◌, ◌-◌, Bool, cond, ◌||◌, List, take, drop, Some, None, Option, ◌==◌}
-use Rattle.std.specs.List.{prefix_len, position_or_len}
+use Rattle.std.specs.Prelude.{◌≡◌, ℕ, ◌+◌, ◌-◌, Bool, cond, ◌||◌, List, length, take, drop, Some, None, Option, ◌==◌}
+use Rattle.std.specs.List.{before_first, prefix_len, position_or_len}
 use Rattle.std.specs.Str.{bytes_eq}
+
+-- the first line of a text, which stands before a line feed or the text's end, and what is left behind the line feed
+pub record FirstLine (text line rest : List ℕ) : Type 0 where
+  pub first : line ≡ before_first (λ b. b == 10) text
+  pub behind : rest ≡ drop (length line + 1) text
 
 -- space, tab, carriage return
 abbrev pub blank : ℕ → Bool

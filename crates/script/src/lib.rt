@@ -9,4 +9,4 @@ mod scan;
 
 pub use line::parse;
 pub use mistake::Mistake;
-pub use scan::line_end;
+pub use scan::{Lines, line_end};

@@ -1,8 +1,9 @@
 //! Lines, and the words of a line.
 
-ghost use Rattle.std.specs.Prelude.{◌≡◌, ℕ, ◌+◌, ◌≤◌, ◌==◌, Bool, length, drop};
+ghost use Rattle.std.specs.Iterator.{at_most};
 ghost use Rattle.std.specs.List.{before_first, position_or_len};
-ghost use Rattle.script.specs.Scan.{blank, start_at, end_at, word_at};
+ghost use Rattle.std.specs.Prelude.{◌≡◌, ℕ, ◌+◌, ◌≤◌, ◌==◌, Bool, [], length, drop, MatchOption};
+ghost use Rattle.script.specs.Scan.{FirstLine, blank, start_at, end_at, word_at};
 
 /// Spaces, tabs and carriage returns stand between words.
 fn blank(byte: u8) -> bool
@@ -32,6 +33,39 @@ pub fn line_end(text: &[u8], at: usize) -> usize
         return at;
     }
     at + find(&text[at..], |byte| byte == b'\n')
+}
+
+/// The lines of a text, one after another. A line feed ends its line and stands in none, and no line begins behind the
+/// last byte.
+#[derive(Drop)]
+pub struct Lines<'a> {
+    rest: &'a [u8],
+}
+
+impl<'a> Lines<'a> {
+    /// The lines of this text, of which none is taken yet.
+    pub fn of(text: &'a [u8]) -> Lines<'a>
+        ensures { result.rest.now ≡ text.now }
+    {
+        Lines { rest: text }
+    }
+}
+
+impl<'a> Iterator for Lines<'a> {
+    type Item = &'a [u8];
+
+    ghost next_gives = { λ was first is. MatchOption first (was.rest.now ≡ []) (λ line. FirstLine was.rest.now line.now is.rest.now) };
+
+    ghost remaining = { λ lines. at_most (length lines.rest.now) };
+
+    fn next(&mut self) -> Option<&'a [u8]> {
+        if self.rest.is_empty() {
+            return None;
+        }
+        let (line, behind) = self.rest.split_at(line_end(self.rest, 0));
+        self.rest = behind.get(1..).unwrap_or(&[]);
+        Some(line)
+    }
 }
 
 /// The line without its comment.

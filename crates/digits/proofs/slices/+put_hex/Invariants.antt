@@ -1,0 +1,4 @@
+use Rattle.digits.proofs.slices.+put_hex.Given as goal
+
+abbrev pub decreases-put_hex : goal.decreases-put_hex
+decreases-put_hex l = l.count
