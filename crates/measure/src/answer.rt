@@ -3,16 +3,16 @@
 use grade::CheckedTable;
 use std::fmt;
 
-/// The answer to a line.
+/// The answer to a line. The table is lent, as a copy of it would make every answer a kibibyte long.
 #[derive(Drop)]
-pub enum Reply {
+pub enum Reply<'t> {
     Distance(u32),
     Reach(u32),
     Counts(bool),
-    Table(CheckedTable),
+    Table(&'t CheckedTable),
 }
 
-impl fmt::Display for Reply {
+impl fmt::Display for Reply<'_> {
     fn fmt<W: fmt::Write>(&self, f: &mut fmt::Formatter<W>) -> fmt::Result {
         match self {
             Reply::Distance(distance) => write!(f, "distance {distance}"),

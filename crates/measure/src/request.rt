@@ -12,11 +12,11 @@ use tape::{HullTape, JoinedTape, JoineryTape, Tape, lay};
 use term::{Clock, Stamp, Term};
 
 /// Answers one line; a blank line and a remark get no answer.
-pub fn answer_line(
+pub fn answer_line<'t>(
     heap: Global,
     line: &[u8],
-    table: &mut CheckedTable,
-) -> Result<Option<Reply>, Trouble> {
+    table: &'t mut CheckedTable,
+) -> Result<Option<Reply<'t>>, Trouble> {
     let text = from_utf8(line).map_err(|_| Expected::Text)?;
     let mut words = Words::new(text);
     let Some(first) = words.next().filter(|word| !word.starts_with("#")) else {
@@ -42,7 +42,7 @@ fn distance(
     cut: Option<u32>,
     words: &mut Words<'_>,
     table: &CheckedTable,
-) -> Result<Reply, Trouble> {
+) -> Result<Reply<'static>, Trouble> {
     let grades = GradeTape { table: *table };
     match kind {
         Some("hull") => between(HullTape, cut, words),
@@ -64,7 +64,7 @@ fn between<P: Read + Drop, T: Tape<P> + Drop>(
     tape: T,
     cut: Option<u32>,
     words: &mut Words<'_>,
-) -> Result<Reply, Trouble> {
+) -> Result<Reply<'static>, Trouble> {
     let a = P::read(words)?;
     words.word(Expected::To)?;
     let b = P::read(words)?;
@@ -74,10 +74,14 @@ fn between<P: Read + Drop, T: Tape<P> + Drop>(
 }
 
 /// Checks a table, which serves from then on if it is accepted.
-fn check(heap: Global, words: Words<'_>, table: &mut CheckedTable) -> Result<Reply, Trouble> {
+fn check<'t>(
+    heap: Global,
+    words: Words<'_>,
+    table: &'t mut CheckedTable,
+) -> Result<Reply<'t>, Trouble> {
     let numbers: Vec<u32> = words.map(number_in).try_collect(heap)?;
     table.check(numbers.as_slice())?;
-    Ok(Reply::Table(*table))
+    Ok(Reply::Table(table))
 }
 
 fn clock(words: &mut Words<'_>) -> Result<Clock, Trouble> {
@@ -88,7 +92,7 @@ fn clock(words: &mut Words<'_>) -> Result<Clock, Trouble> {
 }
 
 /// Whether a piece still counts.
-fn counts(words: &mut Words<'_>) -> Result<Reply, Trouble> {
+fn counts(words: &mut Words<'_>) -> Result<Reply<'static>, Trouble> {
     let term = Window::read(words)?;
     let arrival = words.number_after(Expected::Arrival)?;
     let day = words.number_after(Expected::Day)?;
@@ -98,7 +102,7 @@ fn counts(words: &mut Words<'_>) -> Result<Reply, Trouble> {
 }
 
 /// The radius that a board of a kind needs.
-fn radius(heap: Global, words: &mut Words<'_>) -> Result<Reply, Trouble> {
+fn radius(heap: Global, words: &mut Words<'_>) -> Result<Reply<'static>, Trouble> {
     match words.next() {
         Some("hull") => radius_by(heap, &HullTape, words),
         Some("joinery") => radius_by(heap, &JoineryTape, words),
@@ -110,7 +114,7 @@ fn radius_by<P: Read + Drop, T: Tape<P>>(
     heap: Global,
     tape: &T,
     words: &mut Words<'_>,
-) -> Result<Reply, Trouble> {
+) -> Result<Reply<'static>, Trouble> {
     let board = P::read(words)?;
     let term = Window::read(words)?;
     let clock = clock(words)?;
